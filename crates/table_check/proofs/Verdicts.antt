@@ -1,5 +1,5 @@
 -- How the answers of the three parts of the check make up the verdict on a table.
-use Rattle.std.specs.Prelude.{◌≡◌, refl, Result, Ok, Err, List, [], ◌∷◌, ◌++◌, ℕ, ◌≤◌}
+use Rattle.std.specs.Prelude.{◌≡◌, refl, List, [], ◌∷◌, ◌++◌, ℕ, ◌≤◌, Result, Ok, Err, ⊤}
 use Rattle.std.proofs.Common.{sym, ◌∙◌, arith}
 use Rattle.std.proofs.Math.Path.{ap}
 use Rattle.values.specs.Ends.{Refusal, Judged, accepted, refused}
@@ -12,67 +12,73 @@ use Rattle.language.specs.Limits.{limits}
 use Rattle.language.specs.Judge as judge
 use Rattle.language.specs.Judge.{judge_tree, judge_table}
 use Rattle.logic.specs.Tests.{clash}
-use Rattle.table_entries.specs.declared.Fault.{Fault}
-use Rattle.table_scopes.specs.Flaws.{fault}
-use Rattle.table_read.specs.Walk.{reading_of}
-use Rattle.table_read.specs.declared.Reading.TheVariants as reading
+use Rattle.table_entries.specs.declared.Fault as entries
+use Rattle.table_read.specs.Walk.{fault, reading_of}
 use Rattle.table_forms.specs.Tables.{Reads}
 use Rattle.table_names.specs.Answer.{GivesFirst, first_fault}
+use Rattle.table_names.specs.declared.faults.Faulted.{Faulted}
+use Rattle.table_names.specs.declared.faults.Faulted.TheVariants.{Faultless, Fault}
 use Rattle.table_limits.specs.Usage.{Limits, limited_of}
-use Rattle.table_limits.specs.declared.Limited.{Limited}
-use Rattle.table_limits.specs.declared.Limited.TheVariants.{Within, Over}
 use Rattle.table_check.specs.Small.{Narrow, narrow, Sixes, sixes}
-use Rattle.table_check.specs.declared.Checked.TheVariants.{Accepted, Refused}
 use Rattle.table_check.specs.Checked.{checked_of}
 
 -- ── reading ──
-pub unread : (l : List ℕ) (n p : ℕ) → reading.Refused n p ≡ reading_of (read_table l) → Refused (coded n p) ≡ checked_of (judge_table l)
+pub unread : (l : List ℕ) (f : entries.Fault) → Err f ≡ reading_of (read_table l) → Err f ≡ reading_of (judge_table l)
 unfolding judge_table
-unread l n p e = go (read_table l) e
+unread l f e = go (read_table l) e
   where
-    go : (j : Judged Tree) → reading.Refused n p ≡ reading_of j → Refused (coded n p) ≡ checked_of (judge_tree j)
+    go : (j : Judged Tree) → Err f ≡ reading_of j → Err f ≡ reading_of (judge_tree j)
     go (accepted t) h = clash (cc)
-    go (refused r) h = cc
+    go (refused r) h = h
 
 -- ── faults, and then limits ──
-module _ (l : List ℕ) (r : Reads l) {v : Result (Unit {0}) Fault} (g : GivesFirst l v) where
+module _ (l : List ℕ) (r : Reads l) {v : Faulted} (g : GivesFirst l v) where
   tree-judged : judge_table l ≡ judge.first_fault r.0 (faults r.0 ++ limits r.0)
   unfolding judge_table
   tree-judged = ap judge_tree r.1
 
-  pub faulty : (f : Fault) → v ≡ Err f → Refused (coded f.number f.place) ≡ checked_of (judge_table l)
-  faulty f e = rw tree-judged (go (faults r.0) (sym e ∙ g r.0 r.1))
+  pub faulty : (n p : ℕ) → v ≡ Fault n p → Err (fault n p) ≡ reading_of (judge_table l)
+  faulty n p e = rw tree-judged (go (faults r.0) (sym e ∙ g r.0 r.1))
     where
-      go : (fs : List Refusal) → Err f ≡ first_fault fs → Refused (coded f.number f.place) ≡ checked_of (judge.first_fault r.0 (fs ++ limits r.0))
+      go : (fs : List Refusal) → Fault n p ≡ first_fault fs → Err (fault n p) ≡ reading_of (judge.first_fault r.0 (fs ++ limits r.0))
       go [] h = clash (cc)
-      go (q ∷ fs) h = let z : f ≡ fault q.number q.place = cc in rw z
+      go (f ∷ fs) h = cc
 
-  module _ (e : v ≡ Ok tt) {u : Limited} (k : Limits l u) where
+  module _ (e : v ≡ Faultless) {u : Result ⊤ ℕ} (k : Limits l u) where
     limits-judged : judge_table l ≡ judge.first_fault r.0 (limits r.0)
     limits-judged = tree-judged ∙ go (faults r.0) (sym e ∙ g r.0 r.1)
       where
-        go : (fs : List Refusal) → Ok tt ≡ first_fault fs → judge.first_fault r.0 (fs ++ limits r.0) ≡ judge.first_fault r.0 (limits r.0)
+        go : (fs : List Refusal) → Faultless ≡ first_fault fs → judge.first_fault r.0 (fs ++ limits r.0) ≡ judge.first_fault r.0 (limits r.0)
         go [] h = refl
         go (f ∷ fs) h = clash (cc)
 
-    pub over : (p : ℕ) → u ≡ Over p → Refused (coded 6 p) ≡ checked_of (judge_table l)
+    pub over : (p : ℕ) → u ≡ Err p → Err (fault 6 p) ≡ reading_of (judge_table l)
     over p z = rw limits-judged (go (limits r.0) (sixes l r.0 r.1) (sym z ∙ k r.0 r.1))
       where
-        go : (fs : List Refusal) → Sixes 2048 fs → Over p ≡ limited_of fs → Refused (coded 6 p) ≡ checked_of (judge.first_fault r.0 fs)
+        go : (fs : List Refusal) → Sixes 2048 fs → Err p ≡ limited_of fs → Err (fault 6 p) ≡ reading_of (judge.first_fault r.0 fs)
         go [] s h = clash (cc)
         go (f ∷ fs) s h = cc s.0
 
-    pub within : u ≡ Within → Accepted ≡ checked_of (judge_table l)
+    pub within : u ≡ Ok tt → Ok tt ≡ reading_of (judge_table l)
     within z = rw limits-judged (go (limits r.0) (sym z ∙ k r.0 r.1))
       where
-        go : (fs : List Refusal) → Within ≡ limited_of fs → Accepted ≡ checked_of (judge.first_fault r.0 fs)
+        go : (fs : List Refusal) → Ok tt ≡ limited_of fs → Ok tt ≡ reading_of (judge.first_fault r.0 fs)
         go [] h = refl
         go (f ∷ fs) h = clash (cc)
 
+-- ── the verdict in the code's numbers ──
+pub accepts : (j : Judged Tree) → Ok tt ≡ reading_of j → Ok tt ≡ checked_of j
+accepts (accepted t) h = refl
+accepts (refused r) h = clash (cc)
+
+pub refuses : (j : Judged Tree) (f : entries.Fault) → Err f ≡ reading_of j → Err (coded f.number f.place) ≡ checked_of j
+refuses (accepted t) f h = clash (cc)
+refuses (refused r) f h = let z : f ≡ fault r.number r.place = cc in rw z
+
 -- ── a refusal's place is at most the entry count ──
-pub place-small : (l : List ℕ) (r : code.Refusal) → Refused r ≡ checked_of (judge_table l) → r.place ≤ 2048
+pub place-small : (l : List ℕ) (r : code.Refusal) → Err r ≡ checked_of (judge_table l) → r.place ≤ 2048
 place-small l r e = go (judge_table l) (narrow l) e
   where
-    go : (j : Judged Tree) → Narrow j → Refused r ≡ checked_of j → r.place ≤ 2048
+    go : (j : Judged Tree) → Narrow j → Err r ≡ checked_of j → r.place ≤ 2048
     go (accepted t) h k = clash (cc)
     go (refused q) h k = let z : r ≡ in_code q = cc in omega (arith, h.1, ap (λ (x : code.Refusal). x.place) z)

@@ -1,4 +1,5 @@
 -- What the code finds of a table's bodies is what the definitions of Limits say of its tree. Assumes nothing.
+use Rattle.std.specs.Prelude.{Option, Some, None, Result, Ok, Err}
 use mathlib.Core.Path.{◌≡◌, refl, ap, sym, ◌∙◌}
 use mathlib.Core.Bool.{Bool, true, false, not, ◌||◌}
 use mathlib.Core.List.{List, [], ◌∷◌, ◌++◌, map, append_assoc, append-nil}
@@ -27,10 +28,6 @@ use Rattle.table_entries.specs.Entries.{entries_none}
 use Rattle.table_read.specs.Operands.{sorts}
 use Rattle.table_read.specs.Walk.{kind_at, name_at, size_at}
 use Rattle.table_limits.specs.declared.sums.Used.{Used}
-use Rattle.table_limits.specs.declared.Usage.TheVariants.{Of}
-use Rattle.table_limits.specs.declared.Head.{Head}
-use Rattle.table_limits.specs.declared.Head.TheVariants.{Own, Exceeds, Ended}
-use Rattle.table_limits.specs.declared.Limited.TheVariants.{Within, Over}
 use Rattle.table_limits.specs.Sums.{used, alone_of, stacks, head_of, keeps_all, over_of, declared_of}
 use Rattle.table_limits.specs.Usage.{through, usage_at, head_from, head_at, items_at, root_of, bodies_of, limits_at, limited_of}
 use Rattle.table_limits.proofs.Trees.{used_s, used_e, used_d, needs-S, needs-E, needs-items, used-same, through_same, through-end, Uses, step-plain, uses-entry}
@@ -83,7 +80,7 @@ uses-class c xs h =
     let n : length (sorts 11 c (length xs)) ≡ length xs + 0 = simp length-replicate (omega arith) in
     uses-entry 63 (entry 11 c (pos (length xs))) (omega arith) (omega (arith, length-map xs flat_typed))
     (λ rest. rw n (through-typed xs 62 11 0 0 (used 1 1 0 0) rest h refl (omega arith) ∙ through-end (usage_at 62) 11 0 _ _ _ rest
-    ∙ ap Of (used-same (omega arith) refl (omega arith) refl)))
+    ∙ ap Some (used-same (omega arith) refl (omega arith) refl)))
 
 uses-procedure : (a : ℕ) (xs : List Typed) (b : Body) → result_code b ≤ 3 → deep_list xs ≤ 62 → deep_body b ≤ 62
     → Uses (usage_at 63) (flat_global (procedure a xs b)) (used_g (procedure a xs b))
@@ -98,7 +95,7 @@ uses-procedure a xs b r h k =
     (through-typed xs 62 12 1 0 (used 1 1 0 0) (flat_body b ++ rest) h refl (omega arith)
     ∙ step-plain 12 0 0 (0 + length xs) 0 (used (1 + length xs) 1 (0 + length xs) 0) rest u (omega arith) refl
     ∙ through-end (usage_at 62) 12 0 _ _ _ rest
-    ∙ ap Of (used-same (omega (arith, size-B b)) (omega (arith, needs-B b)) (omega arith) (omega arith))))
+    ∙ ap Some (used-same (omega (arith, size-B b)) (omega (arith, needs-B b)) (omega arith) (omega arith))))
 
 uses-global : (g : Global) → Fits 63 (flat_global g) (deep_global g) → Uses (usage_at 63) (flat_global g) (used_g g)
 unfolding flat_global in_layout
@@ -110,9 +107,9 @@ uses-global (procedure a xs b) h =
     (omega (arith, h.depth)) (omega (arith, h.depth))
 
 -- ── the root's head ──
-abbrev headed : List Refusal → Used → Head
-headed [] u = Own u
-headed (r ∷ rs) u = Exceeds r.place
+abbrev headed : List Refusal → Used → Result (Option Used) ℕ
+headed [] u = Ok (Some u)
+headed (r ∷ rs) u = Err r.place
 
 abbrev own_after : Used → List Global → Used
 own_after own gs = used (own.entries + length (flat_head gs)) own.need (own.cells + head_cells (locals gs)) (own.holds + head_holds (locals gs))
@@ -122,7 +119,7 @@ abbrev Answers : Used → List Global → List Entry → Type 0
 Answers own gs rest = head_from (length gs) own (flat_head gs ++ rest) ≡ headed (procedure_limits own.entries gs) (own_after own gs)
 
 next-global : {us : List Entry} {v : Used} (k n : ℕ) (own : Used) (rest : List Entry) → Uses (usage_at 63) us v → kind_at (us ++ rest) ≡ k
-    → head_from (suc n) own (us ++ rest) ≡ (If over_of k v then Exceeds own.entries else head_from n (declared_of k own v) rest)
+    → head_from (suc n) own (us ++ rest) ≡ (If over_of k v then Err own.entries else head_from n (declared_of k own v) rest)
 unfolding head_from
 next-global {us} {v} k n own rest a e = rw (a.value rest, e, drop_at us rest v.entries a.size)
 
@@ -130,8 +127,8 @@ headed-same : (gs : List Global) {p q : ℕ} {u v : Used} → p ≡ q → u ≡ 
 headed-same gs p q = λ i. headed (procedure_limits (p i) gs) (q i)
 
 -- a procedure within its limits goes on, another is the answer
-judged : (b : Bool) (p : ℕ) (rs : List Refusal) {x : Head} (u : Used) → x ≡ headed rs u
-    → (If b then Exceeds p else x) ≡ headed (fault_if b 6 p ++ rs) u
+judged : (b : Bool) (p : ℕ) (rs : List Refusal) {x : Result (Option Used) ℕ} (u : Used) → x ≡ headed rs u
+    → (If b then Err p else x) ≡ headed (fault_if b 6 p ++ rs) u
 judged true p rs u e = refl
 judged false p rs u e = e
 
@@ -141,7 +138,7 @@ keeps_same a xs (function t e) = refl
 
 head-limits : (gs : List Global) (own : Used) (rest : List Entry) → Fits 63 (flat_head gs) (deep_globals gs) → Answers own gs rest
 unfolding flat_head deep_globals procedure_limits locals head_cells head_holds head_from flat_global flat_decl flat_typed
-head-limits [] own rest h = ap Own (used-same (omega arith) refl (omega arith) (omega arith))
+head-limits [] own rest h = ap (λ (w : Used). Ok (Some w)) (used-same (omega arith) refl (omega arith) (omega arith))
 head-limits (g ∷ gs) own rest h =
     rw (append_assoc (flat_global g) (flat_head gs) rest)
     (step g (uses-global g (fits-left (deep_global g) (deep_globals gs) (flat_global g) (flat_head gs) h))
@@ -189,7 +186,7 @@ module _ (t : Tree) (h : deep_items t.items ≤ 63) where
   own = own_after (used 1 1 0 0) t.head
 
   root-items : items_at (count_items t.items) own (flat_items t.items)
-      ≡ Of (used (own.entries + size_items t.items) (need_items t.items) (root_usage t).cells (root_usage t).holds)
+      ≡ Some (used (own.entries + size_items t.items) (need_items t.items) (root_usage t).cells (root_usage t).holds)
   unfolding own stacks
   root-items =
       let is = t.items in
@@ -197,7 +194,7 @@ module _ (t : Tree) (h : deep_items t.items ≤ 63) where
       ∙ through_same (usage_at 63) 1 0 (flat_items is ++ []) (omega arith) refl refl refl
       ∙ through_items is 63 h 1 0 0 0 own.holds own [] (omega arith) refl (omega arith) (omega arith)
       ∙ through-end (usage_at 63) 1 0 _ _ _ []
-      ∙ ap Of (used-same refl (omega (arith, needs-items is)) (omega arith) (omega arith))
+      ∙ ap Some (used-same refl (omega (arith, needs-items is)) (omega arith) (omega arith))
 
   -- past the root's entry and its head its statements stand
   past_head : (e : Entry) → drop own.entries (e ∷ (flat_head t.head ++ flat_items t.items)) ≡ flat_items t.items
@@ -211,7 +208,7 @@ module _ (t : Tree) (h : deep_items t.items ≤ 63) where
       ≡ limited_of (over_limits (root_usage t) 0)
   root-judged e = rw (past_head e, root-items) (answer (keeps_limits (root_usage t)))
     where
-      answer : (b : Bool) → (If b then Within else Over 0) ≡ limited_of (fault_if (not b) 6 0)
+      answer : (b : Bool) → (If b then Ok tt else Err 0) ≡ limited_of (fault_if (not b) 6 0)
       answer true = refl
       answer false = refl
 
@@ -234,19 +231,19 @@ pub limits-right : (l : List ℕ) (t : Tree) → read_table l ≡ accepted t →
 limits-right l t e = let r = read-tree l t e in rw r.0 (limits-tree t r.1)
 
 -- ── what the code comes to ──
-pub limits-short : (l : List ℕ) → length l < 8 → limits_at (entries_of l) ≡ Within
+pub limits-short : (l : List ℕ) → length l < 8 → limits_at (entries_of l) ≡ Ok tt
 unfolding limits_at head_from through alone_of
 limits-short l h = rw (entries_none l h)
 
-module _ (es : List Entry) {x : Head} (e : x ≡ head_at (name_at es) (drop 1 es)) where
-  pub limits-own : {u : Used} → x ≡ Own u → limits_at es ≡ root_of (items_at (size_at es) u (drop u.entries es))
+module _ (es : List Entry) {x : Result (Option Used) ℕ} (e : x ≡ head_at (name_at es) (drop 1 es)) where
+  pub limits-own : {u : Used} → x ≡ Ok (Some u) → limits_at es ≡ root_of (items_at (size_at es) u (drop u.entries es))
   unfolding limits_at
   limits-own q = ap (bodies_of es) (sym e ∙ q)
 
-  pub limits-exceeds : {p : ℕ} → x ≡ Exceeds p → limits_at es ≡ Over p
+  pub limits-exceeds : {p : ℕ} → x ≡ Err p → limits_at es ≡ Err p
   unfolding limits_at
   limits-exceeds q = ap (bodies_of es) (sym e ∙ q)
 
-  pub limits-ended : x ≡ Ended → limits_at es ≡ Within
+  pub limits-ended : x ≡ Ok None → limits_at es ≡ Ok tt
   unfolding limits_at
   limits-ended q = ap (bodies_of es) (sym e ∙ q)

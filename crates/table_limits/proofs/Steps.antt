@@ -1,4 +1,5 @@
 -- What the code comes to at each operand, and the bounds that keep its sums from wrapping. Assumes nothing.
+use Rattle.std.specs.Prelude.{Option, Some, None, Ok, Err}
 use mathlib.Core.Path.{◌≡◌, refl, ap, sym, ◌∙◌}
 use mathlib.Core.Bool.{Bool, true, false, ◌&&◌}
 use mathlib.Core.List.{List}
@@ -19,15 +20,12 @@ use Rattle.table_entries.specs.Entries.{entries_none, entries-some}
 use Rattle.table_read.proofs.Roots.{tally-small}
 use Rattle.table_read.proofs.Sorts.{leaf-sorts}
 use Rattle.table_limits.specs.declared.sums.Used.{Used}
-use Rattle.table_limits.specs.declared.Usage.{Usage}
-use Rattle.table_limits.specs.declared.Usage.TheVariants.{Of, Unread}
-use Rattle.table_limits.specs.declared.Head.TheVariants.{Own, Exceeds, Ended}
 use Rattle.table_limits.specs.Sums.{used, alone_of, stacks, weight_of, head_of, kept_of, joined, over_of, declared_of, Level}
 use Rattle.table_limits.specs.Usage.{through, usage_at, leaf_at, Bounded, head_from}
 
 -- ── operands ──
-module _ (f : List Entry → Usage) (k head count i o : ℕ) (u : Used) (es : List Entry) where
-  pub through-step : {v : Used} {x : Usage} → i < count → x ≡ f es → x ≡ Of v
+module _ (f : List Entry → Option Used) (k head count i o : ℕ) (u : Used) (es : List Entry) where
+  pub through-step : {v : Used} {x : Option Used} → i < count → x ≡ f es → x ≡ Some v
       → through f k head (count - i) i o u es
       ≡ through f k head (count - (i + 1)) (i + 1) (o + kept_of head i v.holds) (joined (weight_of k i) o u v) (drop v.entries es)
   unfolding through
@@ -35,42 +33,31 @@ module _ (f : List Entry → Usage) (k head count i o : ℕ) (u : Used) (es : Li
       let m : count - i ≡ suc (count - (i + 1)) = omega arith in
       ap (λ (n : ℕ). through f k head n i o u es) m ∙ rw (sym e ∙ q, add-one i)
 
-  pub through-stop : {x : Usage} → i < count → x ≡ f es → x ≡ Unread → through f k head (count - i) i o u es ≡ Unread
+  pub through-stop : {x : Option Used} → i < count → x ≡ f es → x ≡ None → through f k head (count - i) i o u es ≡ None
   unfolding through
   through-stop h e q =
       let m : count - i ≡ suc (count - (i + 1)) = omega arith in
       ap (λ (n : ℕ). through f k head n i o u es) m ∙ rw (sym e ∙ q)
 
-  pub through-done : i ≡ count → through f k head (count - i) i o u es ≡ Of u
+  pub through-done : i ≡ count → through f k head (count - i) i o u es ≡ Some u
   unfolding through
   through-done h = let m : count - i ≡ 0 = omega arith in ap (λ (n : ℕ). through f k head n i o u es) m
 
 -- the root's statements: no value waits, and no hold but the head's stays open
-module _ (f : List Entry → Usage) (n i o : ℕ) (u : Used) (es : List Entry) (more : 0 < n) where
-  pub items-step : {v : Used} {x : Usage} → x ≡ f es → x ≡ Of v
-      → through f 1 0 n i o u es ≡ through f 1 0 (n - 1) (suc i) o (joined 0 o u v) (drop v.entries es)
-  unfolding through stacks
-  items-step e q =
-      let m : n ≡ suc (n - 1) = omega arith in
+module _ (f : List Entry → Option Used) (count i o : ℕ) (u : Used) (es : List Entry) where
+  pub items-step : {v : Used} {x : Option Used} → i < count → x ≡ f es → x ≡ Some v
+      → through f 1 0 (count - i) i o u es ≡ through f 1 0 (count - (i + 1)) (i + 1) o (joined 0 o u v) (drop v.entries es)
+  unfolding stacks
+  items-step h e q =
       let z : o + 0 ≡ o = omega arith in
-      ap (λ (j : ℕ). through f 1 0 j i o u es) m ∙ rw (sym e ∙ q, le-ltb i 0 (omega arith), z)
-
-  pub items-stop : {x : Usage} → x ≡ f es → x ≡ Unread → through f 1 0 n i o u es ≡ Unread
-  unfolding through
-  items-stop e q =
-      let m : n ≡ suc (n - 1) = omega arith in
-      ap (λ (j : ℕ). through f 1 0 j i o u es) m ∙ rw (sym e ∙ q)
-
-pub items-end : (f : List Entry → Usage) (n i o : ℕ) (u : Used) (es : List Entry) → n ≡ 0 → through f 1 0 n i o u es ≡ Of u
-unfolding through
-items-end f n i o u es e = rw e
+      through-step f 1 0 count i o u es h e q ∙ rw (le-ltb i 0 (omega arith), z) refl
 
 -- ── an entry ──
-pub usage-none : (d : ℕ) (es : List Entry) → d ≡ 0 → usage_at d es ≡ Unread
+pub usage-none : (d : ℕ) (es : List Entry) → d ≡ 0 → usage_at d es ≡ None
 unfolding usage_at
 usage-none d es e = rw e
 
-pub usage-short : (d : ℕ) (l : List ℕ) → length l < 8 → usage_at d (entries_of l) ≡ Unread
+pub usage-short : (d : ℕ) (l : List ℕ) → length l < 8 → usage_at d (entries_of l) ≡ None
 unfolding usage_at
 usage-short zero l h = refl
 usage-short (suc d) l h = rw (entries_none l h)
@@ -124,8 +111,8 @@ leaf-short d l h = rw (entries_none l h) (never (ltb 0 d))
 pub leaf-here : (d : ℕ) (l : List ℕ) → leaf_at d (entries_of l) ≡ true → 8 ≤ length l
 leaf-here d l t = elim (dec_le 8 (length l)) [ yes k ↦ k | no k ↦ clash (let e = leaf-short d l (omega arith) in cc) ]
 
-pub leaf-found : (d : ℕ) (l : List ℕ) {x : Usage} → leaf_at d (entries_of l) ≡ true → x ≡ Of (alone_of (kind_at (entries_of l)))
-    → (x ≡ usage_at d (entries_of l)) × Bounded x (length l)
+pub leaf-found : (d : ℕ) (l : List ℕ) {u : Used} → leaf_at d (entries_of l) ≡ true → u ≡ alone_of (kind_at (entries_of l))
+    → (Some u ≡ usage_at d (entries_of l)) × Bounded (Some u) (length l)
 unfolding through
 leaf-found d l t e =
     let k = kind_at (entries_of l) in
@@ -133,7 +120,7 @@ leaf-found d l t e =
     let p = ltb-true 0 d (both_left (ltb 0 d) (is_leaf k) t) in
     let s = leaf-sorts k (name_at (entries_of l)) (size_at (entries_of l)) (both_right (ltb 0 d) (is_leaf k) t) in
     let a = alone-level k in
-    (e ∙ sym (usage-whole d l (omega arith) h ∙ rw s), rw e (a.0, omega arith, omega arith))
+    (ap Some e ∙ sym (usage-whole d l (omega arith) h ∙ rw s), rw e (a.0, omega arith, omega arith))
 
 pub joined-level : (w o : ℕ) (u v : Used) → Level u → Level v → w ≤ u.entries → o ≤ u.entries → Level (joined w o u v)
 joined-level w o u v h k a b = (omega arith, omega arith, omega arith)
@@ -142,23 +129,23 @@ pub declared-level : (k : ℕ) (own v : Used) → Level own → 1 ≤ v.entries 
 declared-level k own v h a = (omega arith, omega (arith, tally-small k 10), omega (arith, tally-small k 14))
 
 -- ── the root's head ──
-module _ (n : ℕ) (own : Used) (es : List Entry) (more : 0 < n) where
-  opened : n ≡ suc (n - 1)
+module _ (count i : ℕ) (own : Used) (es : List Entry) (more : i < count) where
+  opened : count - i ≡ suc (count - (i + 1))
   opened = omega arith
 
-  pub head-over : {v : Used} {x : Usage} → x ≡ usage_at 63 es → x ≡ Of v → over_of (kind_at es) v ≡ true → head_from n own es ≡ Exceeds own.entries
+  pub head-over : {v : Used} {x : Option Used} → x ≡ usage_at 63 es → x ≡ Some v → over_of (kind_at es) v ≡ true → head_from (count - i) own es ≡ Err own.entries
   unfolding head_from
   head-over e q b = ap (λ (m : ℕ). head_from m own es) opened ∙ rw (sym e ∙ q, b)
 
-  pub head-next : {v : Used} {x : Usage} → x ≡ usage_at 63 es → x ≡ Of v → over_of (kind_at es) v ≡ false
-      → head_from n own es ≡ head_from (n - 1) (declared_of (kind_at es) own v) (drop v.entries es)
+  pub head-next : {v : Used} {x : Option Used} → x ≡ usage_at 63 es → x ≡ Some v → over_of (kind_at es) v ≡ false
+      → head_from (count - i) own es ≡ head_from (count - (i + 1)) (declared_of (kind_at es) own v) (drop v.entries es)
   unfolding head_from
   head-next e q b = ap (λ (m : ℕ). head_from m own es) opened ∙ rw (sym e ∙ q, b)
 
-  pub head-stop : {x : Usage} → x ≡ usage_at 63 es → x ≡ Unread → head_from n own es ≡ Ended
+  pub head-stop : {x : Option Used} → x ≡ usage_at 63 es → x ≡ None → head_from (count - i) own es ≡ Ok None
   unfolding head_from
   head-stop e q = ap (λ (m : ℕ). head_from m own es) opened ∙ rw (sym e ∙ q)
 
-pub head-end : (n : ℕ) (own : Used) (es : List Entry) → n ≡ 0 → head_from n own es ≡ Own own
+pub head-end : (n : ℕ) (own : Used) (es : List Entry) → n ≡ 0 → head_from n own es ≡ Ok (Some own)
 unfolding head_from
 head-end n own es e = rw e

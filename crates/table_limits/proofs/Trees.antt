@@ -1,4 +1,5 @@
 -- Where entries are those of a tree, they take what the definitions of Limits say. Assumes nothing.
+use Rattle.std.specs.Prelude.{Option, Some}
 use mathlib.Core.Path.{◌≡◌, refl, ap, ◌∙◌}
 use mathlib.Core.Bool.{Bool, true, false, ◌&&◌}
 use mathlib.Core.List.{List, [], ◌∷◌, ◌++◌, map, append_assoc}
@@ -24,8 +25,6 @@ use Rattle.language.specs.Limits.{holds_target, holds_e, holds_es, need_s, need_
 use Rattle.table_read.specs.Operands.{sorts}
 use Rattle.table_read.specs.Walk.{sorts_of}
 use Rattle.table_limits.specs.declared.sums.Used.{Used}
-use Rattle.table_limits.specs.declared.Usage.{Usage}
-use Rattle.table_limits.specs.declared.Usage.TheVariants.{Of}
 use Rattle.table_limits.specs.Sums.{used, alone_of, stacks, weight_of, head_of, kept_of, joined}
 use Rattle.table_limits.specs.Usage.{through, usage_at}
 use Rattle.table_limits.proofs.Steps.{alone-level}
@@ -92,12 +91,12 @@ mutual
 pub used-same : {n n' d d' c c' h h' : ℕ} → n ≡ n' → d ≡ d' → c ≡ c' → h ≡ h' → used n d c h ≡ used n' d' c' h'
 used-same p q r s = λ i. used (p i) (q i) (r i) (s i)
 
-module _ (f : List Entry → Usage) (k head : ℕ) where
+module _ (f : List Entry → Option Used) (k head : ℕ) where
   pub through_same : {n n' i i' o o' : ℕ} {u u' : Used} (es : List Entry) → n ≡ n' → i ≡ i' → o ≡ o' → u ≡ u'
       → through f k head n i o u es ≡ through f k head n' i' o' u' es
   through_same es p q r s = λ j. through f k head (p j) (q j) (r j) (s j) es
 
-  pub through-end : (i o : ℕ) (u : Used) (es : List Entry) → through f k head 0 i o u es ≡ Of u
+  pub through-end : (i o : ℕ) (u : Used) (es : List Entry) → through f k head 0 i o u es ≡ Some u
   unfolding through
   through-end i o u es = refl
 
@@ -106,11 +105,11 @@ abbrev Stacked : ℕ → Type 0
 Stacked k = (i : ℕ) → weight_of k i ≡ i
 
 -- ── entries that are found to take v ──
-pub record Uses (f : List Entry → Usage) (us : List Entry) (v : Used) : Type 0 where
-  pub value : (rest : List Entry) → f (us ++ rest) ≡ Of v
+pub record Uses (f : List Entry → Option Used) (us : List Entry) (v : Used) : Type 0 where
+  pub value : (rest : List Entry) → f (us ++ rest) ≡ Some v
   pub size : length us ≡ v.entries
 
-module _ {f : List Entry → Usage} {us : List Entry} {v : Used} (k head n i o : ℕ) (u : Used) (rest : List Entry) (h : Uses f us v) where
+module _ {f : List Entry → Option Used} {us : List Entry} {v : Used} (k head n i o : ℕ) (u : Used) (rest : List Entry) (h : Uses f us v) where
   pub step : through f k head (suc n) i o u (us ++ rest)
       ≡ through f k head n (suc i) (o + kept_of head i v.holds) (joined (weight_of k i) o u v) rest
   unfolding through
@@ -135,7 +134,7 @@ module _ (d : ℕ) (e : Entry) (deep : 1 ≤ d) where
   entry-open es = let h : d ≡ suc (d - 1) = omega arith in ap (λ (m : ℕ). usage_at m (e ∷ es)) h
 
   pub uses-entry : {us : List Entry} {x : Used} → length (e ∷ us) ≡ x.entries
-      → ((rest : List Entry) → through (usage_at (d - 1)) e.kind (head_of e.kind e.a) (length (sorts_of e)) 0 0 (alone_of e.kind) (us ++ rest) ≡ Of x)
+      → ((rest : List Entry) → through (usage_at (d - 1)) e.kind (head_of e.kind e.a) (length (sorts_of e)) 0 0 (alone_of e.kind) (us ++ rest) ≡ Some x)
       → Uses (usage_at d) (e ∷ us) x
   uses-entry {us} s g = record { value = λ rest. entry-open (us ++ rest) ∙ g rest; size = s }
 
@@ -150,7 +149,7 @@ module _ (d : ℕ) (e : Entry) (deep : 1 ≤ d) where
       uses-one n =
           uses-entry (omega (arith, a.size))
           (λ rest. rw (n, flat, bare) (step e.kind 0 0 0 0 (used 1 1 0 0) rest a
-          ∙ through-end (usage_at (d - 1)) e.kind 0 _ _ _ rest ∙ ap Of (used-same (omega arith) (first-need (stacks e.kind) (eqb e.kind 31 && eqb 0 3)) (omega arith) (omega arith))))
+          ∙ through-end (usage_at (d - 1)) e.kind 0 _ _ _ rest ∙ ap Some (used-same (omega arith) (first-need (stacks e.kind) (eqb e.kind 31 && eqb 0 3)) (omega arith) (omega arith))))
         where
           first-need : (b c : Bool) → max 1 ((If b then If c then 0 else 0 else 0) + v.need) ≡ v.need
           first-need true true = omega arith
@@ -166,7 +165,7 @@ module _ (d : ℕ) (e : Entry) (deep : 1 ≤ d) where
             (λ rest. rw (n, flat, bare, append_assoc us vs rest)
             (step-plain e.kind 0 1 0 0 (used 1 1 0 0) (vs ++ rest) a (omega arith) t
             ∙ step-plain e.kind 0 0 1 0 (joined 0 0 (used 1 1 0 0) v) rest b (omega arith) t
-            ∙ through-end (usage_at (d - 1)) e.kind 0 _ _ _ rest ∙ ap Of (used-same (omega arith) (omega arith) (omega arith) (omega arith))))
+            ∙ through-end (usage_at (d - 1)) e.kind 0 _ _ _ rest ∙ ap Some (used-same (omega arith) (omega arith) (omega arith) (omega arith))))
 
         -- two operands, of which the first waits for the second
         pub uses-stack2 : Stacked e.kind → length (sorts_of e) ≡ 2
@@ -176,7 +175,7 @@ module _ (d : ℕ) (e : Entry) (deep : 1 ≤ d) where
             (λ rest. rw (n, flat, bare, append_assoc us vs rest)
             (step-stacked e.kind 0 1 0 0 (used 1 1 0 0) (vs ++ rest) a (omega arith) 0 (t 0)
             ∙ step-stacked e.kind 0 0 1 0 (joined 0 0 (used 1 1 0 0) v) rest b (omega arith) 1 (t 1)
-            ∙ through-end (usage_at (d - 1)) e.kind 0 _ _ _ rest ∙ ap Of (used-same (omega arith) (omega arith) (omega arith) (omega arith))))
+            ∙ through-end (usage_at (d - 1)) e.kind 0 _ _ _ rest ∙ ap Some (used-same (omega arith) (omega arith) (omega arith) (omega arith))))
 
         module _ {ws : List Entry} {z : Used} (c : Uses (usage_at (d - 1)) ws z) where
           abbrev three : ℕ → Used
@@ -193,7 +192,7 @@ module _ (d : ℕ) (e : Entry) (deep : 1 ≤ d) where
               (step-plain e.kind 0 2 0 0 (used 1 1 0 0) (vs ++ (ws ++ rest)) a (omega arith) t
               ∙ step-plain e.kind 0 1 1 0 (joined 0 0 (used 1 1 0 0) v) (ws ++ rest) b (omega arith) t
               ∙ step-plain e.kind 0 0 2 0 (joined 0 0 (joined 0 0 (used 1 1 0 0) v) w) rest c (omega arith) t
-              ∙ through-end (usage_at (d - 1)) e.kind 0 _ _ _ rest ∙ ap Of (used-same (omega arith) (omega arith) (omega arith) (omega arith))))
+              ∙ through-end (usage_at (d - 1)) e.kind 0 _ _ _ rest ∙ ap Some (used-same (omega arith) (omega arith) (omega arith) (omega arith))))
 
           pub uses-stack3 : Stacked e.kind → length (sorts_of e) ≡ 3
               → Uses (usage_at d) (e ∷ (us ++ (vs ++ ws))) (three (max v.need (max (1 + w.need) (2 + z.need))))
@@ -203,7 +202,7 @@ module _ (d : ℕ) (e : Entry) (deep : 1 ≤ d) where
               (step-stacked e.kind 0 2 0 0 (used 1 1 0 0) (vs ++ (ws ++ rest)) a (omega arith) 0 (t 0)
               ∙ step-stacked e.kind 0 1 1 0 (joined 0 0 (used 1 1 0 0) v) (ws ++ rest) b (omega arith) 1 (t 1)
               ∙ step-stacked e.kind 0 0 2 0 (joined 1 0 (joined 0 0 (used 1 1 0 0) v) w) rest c (omega arith) 2 (t 2)
-              ∙ through-end (usage_at (d - 1)) e.kind 0 _ _ _ rest ∙ ap Of (used-same (omega arith) (omega arith) (omega arith) (omega arith))))
+              ∙ through-end (usage_at (d - 1)) e.kind 0 _ _ _ rest ∙ ap Some (used-same (omega arith) (omega arith) (omega arith) (omega arith))))
 
 -- ── declarations ──
 pub uses-decl : (x : Decl) (d : ℕ) → 1 ≤ d → Uses (usage_at d) (flat_decl x ∷ []) (used_d x)
@@ -280,18 +279,18 @@ uses-body d ds is e l h z go a =
     (λ rest. rw (n, append_assoc (map flat_decl ds) (flat_items is ++ flat_e e) rest, append_assoc (flat_items is) (flat_e e) rest)
     (through-body (d - 1) 53 ds is refl h go 1 (flat_e e ++ rest)
     ∙ step-plain 53 (length ds) 0 (length ds + count_items is) (head_holds ds) (body_used (d - 1) 53 ds is refl h go) rest a (omega arith) refl
-    ∙ ap Of (used-same (omega arith) (omega (arith, needs-items is)) (omega arith) (omega arith))))
+    ∙ ap Some (used-same (omega arith) (omega (arith, needs-items is)) (omega arith) (omega arith))))
 
 -- arguments, each waiting for the last
 uses-list : (d : ℕ) (e : Entry) (es : Exprs) → 1 ≤ d → head_of e.kind e.a ≡ 0 → alone_of e.kind ≡ used 1 1 0 0 → length (sorts_of e) ≡ count_exprs es → length (flat_es es) ≡ size_es es
-    → ((rest : List Entry) → through (usage_at (d - 1)) e.kind 0 (count_exprs es) 0 0 (used 1 1 0 0) (flat_es es ++ rest) ≡ Of (with_exprs 0 (used 1 1 0 0) es))
+    → ((rest : List Entry) → through (usage_at (d - 1)) e.kind 0 (count_exprs es) 0 0 (used 1 1 0 0) (flat_es es ++ rest) ≡ Some (with_exprs 0 (used 1 1 0 0) es))
     → Uses (usage_at d) (e ∷ flat_es es) (used (suc (size_es es)) (need_es 0 es) (cells_es es) (holds_es es))
 uses-list d e es l flat bare n z go =
     uses-entry d e l (omega arith)
-    (λ rest. rw (flat, bare, n) (go rest ∙ ap Of (used-same (omega arith) (omega (arith, needs-Es 0 es)) (omega arith) (omega arith))))
+    (λ rest. rw (flat, bare, n) (go rest ∙ ap Some (used-same (omega arith) (omega (arith, needs-Es 0 es)) (omega arith) (omega arith))))
 
 uses-case : (d : ℕ) (e : Expr) (r : Arms) → 1 ≤ d → Uses (usage_at (d - 1)) (flat_e e) (used_e e) → length (flat_arms r) ≡ size_arms r
-    → ((i : ℕ) (u : Used) (rest : List Entry) → 1 ≤ u.need → through (usage_at (d - 1)) 30 0 (count_arms r) i 0 u (flat_arms r ++ rest) ≡ Of (with_arms u r))
+    → ((i : ℕ) (u : Used) (rest : List Entry) → 1 ≤ u.need → through (usage_at (d - 1)) 30 0 (count_arms r) i 0 u (flat_arms r ++ rest) ≡ Some (with_arms u r))
     → Uses (usage_at d) (flat_s (select e r)) (used_s (select e r))
 unfolding flat_s measure_s head_of sorts stacks alone_of
 uses-case d e r l a z go =
@@ -300,7 +299,7 @@ uses-case d e r l a z go =
     (λ rest. rw (n, append_assoc (flat_e e) (flat_arms r) rest)
     (step-plain 30 0 (count_arms r) 0 0 (used 1 2 1 0) (flat_arms r ++ rest) a (omega arith) refl
     ∙ go 1 (joined 0 0 (used 1 2 1 0) (used_e e)) rest (omega arith)
-    ∙ ap Of (used-same (omega arith) (omega arith) (omega arith) (omega arith))))
+    ∙ ap Some (used-same (omega arith) (omega arith) (omega arith) (omega arith))))
 
 -- the largest of four, in either order
 regroup : (a b c : ℕ) → max (max a b) c ≡ max a (max b c)
@@ -340,7 +339,7 @@ uses-for d a e f g s l p q r t =
     ∙ step-stacked 31 0 2 1 0 one (flat_e g ++ (flat_s s ++ rest)) q (omega arith) 1 refl
     ∙ step-stacked 31 0 1 2 0 two (flat_s s ++ rest) r (omega arith) 2 refl
     ∙ step-stacked 31 0 0 3 0 three rest t (omega arith) 0 refl
-    ∙ through-end (usage_at (d - 1)) 31 0 _ _ _ rest ∙ ap Of (used-same (omega arith) need (omega arith) held)))
+    ∙ through-end (usage_at (d - 1)) 31 0 _ _ _ rest ∙ ap Some (used-same (omega arith) need (omega arith) held)))
 
 mutual
   unfolding flat_s measure_s count_items count_arms count_exprs head_of sorts stacks alone_of
@@ -406,23 +405,23 @@ mutual
       through_items is (d - 1) (omega arith) k head m i o u rest p s l q) (uses-E e (d - 1) (omega arith))
 
   through-arms : (r : Arms) (d : ℕ) → deep_arms r ≤ d → (i : ℕ) (u : Used) (rest : List Entry) → 1 ≤ u.need
-      → through (usage_at d) 30 0 (count_arms r) i 0 u (flat_arms r ++ rest) ≡ Of (with_arms u r)
+      → through (usage_at d) 30 0 (count_arms r) i 0 u (flat_arms r ++ rest) ≡ Some (with_arms u r)
   through-arms (last_arm s) d h i u rest l =
-      step-plain 30 0 0 i 0 u rest (uses-S s d h) (omega arith) refl ∙ through-end (usage_at d) 30 0 _ _ _ rest ∙ ap Of (used-same refl (omega arith) refl (omega arith))
+      step-plain 30 0 0 i 0 u rest (uses-S s d h) (omega arith) refl ∙ through-end (usage_at d) 30 0 _ _ _ rest ∙ ap Some (used-same refl (omega arith) refl (omega arith))
   through-arms (arm s r) d h i u rest l =
       rw (append_assoc (flat_s s) (flat_arms r) rest)
       (step-plain 30 0 (count_arms r) i 0 u (flat_arms r ++ rest) (uses-S s d (omega arith)) (omega arith) refl
       ∙ through-arms r d (omega arith) (suc i) (joined 0 0 u (used_s s)) rest (omega arith)
-      ∙ ap Of (used-same (omega arith) (omega arith) (omega arith) (omega arith)))
+      ∙ ap Some (used-same (omega arith) (omega arith) (omega arith) (omega arith)))
 
   through-exprs : (es : Exprs) (d : ℕ) → deep_es es ≤ d → (k : ℕ) → Stacked k → (i : ℕ) (u : Used) → 1 ≤ u.need → (rest : List Entry)
-      → through (usage_at d) k 0 (count_exprs es) i 0 u (flat_es es ++ rest) ≡ Of (with_exprs i u es)
-  through-exprs no_expr d h k s i u l rest = through-end (usage_at d) k 0 i 0 u rest ∙ ap Of (used-same (omega arith) (omega arith) (omega arith) (omega arith))
+      → through (usage_at d) k 0 (count_exprs es) i 0 u (flat_es es ++ rest) ≡ Some (with_exprs i u es)
+  through-exprs no_expr d h k s i u l rest = through-end (usage_at d) k 0 i 0 u rest ∙ ap Some (used-same (omega arith) (omega arith) (omega arith) (omega arith))
   through-exprs (expr e es) d h k s i u l rest =
       rw (append_assoc (flat_e e) (flat_es es) rest)
       (step-stacked k 0 (count_exprs es) i 0 u (flat_es es ++ rest) (uses-E e d (omega arith)) (omega arith) i (s i)
       ∙ through-exprs es d (omega arith) k s (suc i) (joined i 0 u (used_e e)) (omega arith) rest
-      ∙ ap Of (used-same (omega arith) (omega arith) (omega arith) (omega arith)))
+      ∙ ap Some (used-same (omega arith) (omega arith) (omega arith) (omega arith)))
 
   -- how many entries they are
   pub size-items : (is : Items) → length (flat_items is) ≡ size_items is

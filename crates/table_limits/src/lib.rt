@@ -13,29 +13,6 @@ use formats::entries::*;
 use formats::limits::*;
 use sums::Used;
 
-#[derive(Drop)]
-pub enum Usage {
-    // what an entry and all that stands below it take
-    Of(Used),
-    // the table ends before it, or it is nested too deep
-    Unread,
-}
-
-// The root's head: what its own declarations take, or the place of a procedure that is over its limits.
-#[derive(Drop)]
-enum Head {
-    Own(Used),
-    Exceeds(usize),
-    Ended,
-}
-
-#[derive(Drop)]
-pub enum Limited {
-    Within,
-    // the entry of the first body that is over its limits
-    Over(usize),
-}
-
 // Whether an entry of a kind without operands stands there, and is not nested too deep: most entries are such.
 fn leaf(part: &[u8], nesting: usize) -> bool
     ensures { result ≡ leaf_at nesting (entries_of part.now) }
@@ -49,22 +26,23 @@ fn leaf(part: &[u8], nesting: usize) -> bool
     table_read::kinds::is_leaf(table_read::kind_of(part))
 }
 
-fn leaf_usage(part: &[u8]) -> Usage
+fn leaf_usage(part: &[u8]) -> Used
     requires { 8 ≤ length part.now }
-    ensures { result ≡ Usage.Of (alone_of (kind_at (entries_of part.now))) }
+    ensures { result ≡ alone_of (kind_at (entries_of part.now)) }
 {
-    Usage::Of(sums::alone(table_read::kind_of(part)))
+    sums::alone(table_read::kind_of(part))
 }
 
-// An entry's working need, with what else it takes. The function calls itself on each operand, on the part that begins with it.
-pub fn usage_of(part: &[u8], nesting: usize) -> Usage
+// What an entry and all that stands below it take; none where the table ends before it, or it is nested too deep. The function calls itself on each
+// operand, on the part that begins with it.
+pub fn usage_of(part: &[u8], nesting: usize) -> Option<Used>
     ensures { (result ≡ usage_at nesting (entries_of part.now)) × Bounded result (length part.now) }
 {
     if nesting == 0 {
-        return Usage::Unread;
+        return None;
     }
     if part.len() < ENTRY_BYTES {
-        return Usage::Unread;
+        return None;
     }
     let kind = table_read::kind_of(part);
     let name = table_read::name_of(part);
@@ -73,107 +51,77 @@ pub fn usage_of(part: &[u8], nesting: usize) -> Usage
     let mut rest = &part[ENTRY_BYTES..];
     let mut sum = sums::alone(kind);
     let mut open: usize = 0;
-    let mut i: usize = 0;
-    while i < count {
-        let found = if leaf(rest, nesting - 1) {
+    for i in 0..count {
+        let u = if leaf(rest, nesting - 1) {
             leaf_usage(rest)
         } else {
-            usage_of(rest, nesting - 1)
+            usage_of(rest, nesting - 1)?
         };
-        match found {
-            Usage::Of(u) => {
-                let at = ENTRY_BYTES * u.entries;
-                rest = &rest[at..];
-                sum = sums::join(sum, u, sums::weight(kind, i), open);
-                open += sums::kept(head, i, u.holds);
-                i += 1;
-            }
-            Usage::Unread => {
-                return Usage::Unread;
-            }
-        }
+        let at = ENTRY_BYTES * u.entries;
+        rest = &rest[at..];
+        sum = sums::join(sum, u, sums::weight(kind, i), open);
+        open += sums::kept(head, i, u.holds);
     }
-    Usage::Of(sum)
+    Some(sum)
 }
 
-// The declarations of the root's head. A place counts from the root, which own begins with.
-fn root_head(part: &[u8], count: u16) -> Head
+// What the declarations of the root's head take of the root's own, none where one does not read; or the place of a procedure that is over its limits.
+// A place counts from the root, which own begins with.
+fn root_head(part: &[u8], count: u16) -> Result<Option<Used>, usize>
     ensures { (result ≡ head_at count (entries_of part.now)) × HeadBounded result (length part.now) }
 {
     let mut rest = part;
-    let mut own = sums::alone(1);
-    let mut left = count;
-    while 0 < left {
-        match usage_of(rest, BELOW_ROOT) {
-            Usage::Of(u) => {
-                let kind = table_read::kind_of(rest);
-                if sums::over(kind, u) {
-                    return Head::Exceeds(own.entries);
-                }
-                own = sums::declared(kind, own, u);
-                let at = ENTRY_BYTES * u.entries;
-                rest = &rest[at..];
-                left -= 1;
-            }
-            Usage::Unread => {
-                return Head::Ended;
-            }
+    let mut own = sums::alone(KIND_BLOCK);
+    for i in 0..count {
+        let Some(u) = usage_of(rest, BELOW_ROOT) else {
+            return Ok(None);
+        };
+        let kind = table_read::kind_of(rest);
+        if sums::over(kind, u) {
+            return Err(own.entries);
         }
+        own = sums::declared(kind, own, u);
+        let at = ENTRY_BYTES * u.entries;
+        rest = &rest[at..];
     }
-    Head::Own(own)
+    Ok(Some(own))
 }
 
 // The root's statements, whose holds are open on top of those of its head.
-fn root_items(part: &[u8], count: u32, own: Used) -> Usage
+fn root_items(part: &[u8], count: u32, own: Used) -> Option<Used>
     requires { Level own × (8 * own.entries + length part.now < 2 ^ 63) }
     ensures { result ≡ items_at count own (entries_of part.now) }
 {
-    let open = own.holds;
     let mut rest = part;
     let mut sum = own;
-    let mut left = count;
-    while 0 < left {
-        match usage_of(rest, BELOW_ROOT) {
-            Usage::Of(u) => {
-                let at = ENTRY_BYTES * u.entries;
-                rest = &rest[at..];
-                sum = sums::join(sum, u, 0, open);
-                left -= 1;
-            }
-            Usage::Unread => {
-                return Usage::Unread;
-            }
-        }
+    for i in 0..count {
+        let u = usage_of(rest, BELOW_ROOT)?;
+        let at = ENTRY_BYTES * u.entries;
+        rest = &rest[at..];
+        sum = sums::join(sum, u, 0, own.holds);
     }
-    Usage::Of(sum)
+    Some(sum)
 }
 
-// The first body over its limits: procedures in their order, then the root. Of a table that does not read it says nothing.
-pub fn over_limits(table: &[u8]) -> Limited
+// The entry of the first body over its limits: procedures in their order, then the root. Of a table that does not read it says nothing.
+pub fn over_limits(table: &[u8]) -> Result<(), usize>
     ensures { Limits table.now result }
 {
     if table.len() < ENTRY_BYTES {
-        return Limited::Within;
+        return Ok(());
     }
-    match root_head(&table[ENTRY_BYTES..], table_read::name_of(table)) {
-        Head::Own(own) => {
-            let at = ENTRY_BYTES * own.entries;
-            root_limit(root_items(&table[at..], table_read::size_of(table), own))
-        }
-        Head::Exceeds(p) => Limited::Over(p),
-        Head::Ended => Limited::Within,
-    }
+    let Some(own) = root_head(&table[ENTRY_BYTES..], table_read::name_of(table))? else {
+        return Ok(());
+    };
+    let at = ENTRY_BYTES * own.entries;
+    root_limit(root_items(&table[at..], table_read::size_of(table), own))
 }
 
-fn root_limit(u: Usage) -> Limited
+fn root_limit(u: Option<Used>) -> Result<(), usize>
     ensures { result ≡ root_of u }
 {
     match u {
-        Usage::Of(sum) => if sums::keeps(sum) {
-            Limited::Within
-        } else {
-            Limited::Over(0)
-        },
-        Usage::Unread => Limited::Within,
+        Some(sum) if !sums::keeps(sum) => Err(0),
+        _ => Ok(()),
     }
 }

@@ -1,44 +1,60 @@
--- `table_check::judged` meets its contract: the first fault, and where there is none the first limit, is the verdict.
-use mathlib.Core.Path.{◌≡◌}
-use native.Mathlib.Omega.{arith}
-use Rattle.values.specs.Refusals.{coded}
+-- `table_check::judged` meets its contract: the table does not read, or its first fault, and where there is none its first limit, is the verdict.
+use mathlib.Core.Path.{◌≡◌, refl, ap, sym, ◌∙◌}
+use Rattle.std.specs.Prelude.{Result, Ok, Err, IsErrAnd, ⊤, ℕ}
+use Rattle.std.proofs.Common.{rules}
+use Rattle.std.proofs.lemmas.Result.{MatchResult-at_ok, MatchResult-at_err, err_from_is_err_and}
 use Rattle.language.specs.Judge.{judge_table}
-use Rattle.table_check.specs.Checked.{checked_of}
-use Rattle.table_check.proofs.Verdicts.{faulty, over, within, place-small}
-use Rattle.table_check.specs.declared.Checked.TheVariants.{Refused}
+use Rattle.table_entries.specs.Sizes.{Known}
+use Rattle.table_read.specs.Walk.{fault, reading_of}
+use Rattle.table_read.specs.Filling.{Hands}
+use Rattle.table_forms.specs.Tables.{Reads, read_held}
+use Rattle.table_check.specs.Checked.{reads}
+use Rattle.table_check.proofs.Verdicts.{unread, faulty, over, within}
 use Rattle.table_check.proofs.judged.Goals as goal
-use Rattle.table_check.proofs.judged.Goals.{In-Over}
+use Rattle.table_check.proofs.judged.Goals.{In_ok-read_table, After-map_err}
 
--- what each arm of a refusal answers
-over-is : (c : In-Over) → Refused (coded 6 c.in-Over.place) ≡ checked_of
-    (judge_table c.args.table.now)
-over-is c =
-    over _ c.requires.0 c.first_fault.ensures c.in-Ok.is
-    c.over_limits.ensures c.in-Over.place c.in-Over.is
+pub read_table-requires : goal.read_table-requires
+read_table-requires c = c.requires.0
 
-pub overflow_cast-result : goal.overflow_cast-result
-overflow_cast-result c = record { fits = omega (arith, place-small _ _ (over-is c)) }
+pub returns-in_err-read_table : goal.returns-in_err-read_table
+returns-in_err-read_table c =
+    let e : c.from_residual.result ≡ Err c.in_err-read_table.field-0.0 = search rules in
+    rw e (unread _ c.in_err-read_table.field-0.0 (sym c.in_err-read_table.was ∙ c.read_table.ensures.0), tt)
 
-pub overflow_cast-result-in-Err : goal.overflow_cast-result-in-Err
-overflow_cast-result-in-Err c = record { fits = omega (arith, place-small _ _ (faulty _ c.requires.0 c.first_fault.ensures c.in-Err.fault c.in-Err.is)) }
+-- a table that reads, and the sizes of its entries
+read : (c : In_ok-read_table) → Reads c.args.table.now
+read c = reads c.args.table.now (sym c.in_ok-read_table.was ∙ c.read_table.ensures.0)
 
-pub returns-in-Within : goal.returns-in-Within
-returns-in-Within c =
-    within _ c.requires.0
-    c.first_fault.ensures c.in-Ok.is c.over_limits.ensures
-    c.in-Within.is
+known : (c : In_ok-read_table) → Known c.args.table.now c.read_table.new.sizes
+known c = rw c.in_ok-read_table.was at c.read_table.ensures.1
 
-pub returns-in-Over : goal.returns-in-Over
-returns-in-Over c = over-is c
+pub first_fault-requires : goal.first_fault-requires
+first_fault-requires c =
+    let r = read (goal.at.first_fault-requires c).In_ok-read_table in
+    (r, known (goal.at.first_fault-requires c).In_ok-read_table, c.requires.1 (read_held c.args.table.now r.0 r.1).short)
 
-pub returns-in-Err : goal.returns-in-Err
-returns-in-Err c = faulty _ c.requires.0 c.first_fault.ensures c.in-Err.fault c.in-Err.is
+pub returns-in-Fault : goal.returns-in-Fault
+returns-in-Fault c =
+    (faulty _ (read (goal.at.returns-in-Fault c).In_ok-read_table) c.first_fault.ensures c.in-Fault.number c.in-Fault.place c.in-Fault.is, tt)
 
-pub shape_of-env-in-Within : goal.shape_of-env-in-Within
-shape_of-env-in-Within c = c.first_fault.auto.env
+-- what the limits answer, as a fault
+limited : (c : After-map_err) → (p : ℕ) → c.over_limits.result ≡ Err p → c.map_err.result ≡ Err (fault 6 p)
+limited c p e =
+    let h = err_from_is_err_and c.map_err.result (MatchResult-at_err _ _ p e c.map_err.ensures.cases) in
+    let q = h.2 in
+    let f : h.0 ≡ fault 6 p = search rules in
+    h.1 ∙ ap Err f
 
-pub shape_of-env-in-Over : goal.shape_of-env-in-Over
-shape_of-env-in-Over c = c.first_fault.auto.env
+hands : (l sizes : _) (r : Result ⊤ _) → Known l sizes → Hands l sizes r
+hands l sizes (Ok u) k = k
+hands l sizes (Err f) k = tt
 
-pub shape_of-env-in-Err : goal.shape_of-env-in-Err
-shape_of-env-in-Err c = c.first_fault.auto.env
+pub returns : goal.returns
+returns c = (go c.over_limits.result refl, hands _ _ c.map_err.result (known (goal.at.returns c).In_ok-read_table))
+  where
+    r : Reads c.args.table.now
+    r = read (goal.at.returns c).In_ok-read_table
+
+    go : (u : Result ⊤ ℕ) → c.over_limits.result ≡ u → c.map_err.result ≡ reading_of (judge_table c.args.table.now)
+    go (Ok tt) e = MatchResult-at_ok _ _ tt e c.map_err.ensures.cases ∙ within _ r c.first_fault.ensures c.in-Faultless.is c.over_limits.ensures e
+    go (Err p) e = limited (goal.at.returns c).After-map_err p e ∙ over _ r c.first_fault.ensures c.in-Faultless.is c.over_limits.ensures p e

@@ -1,6 +1,7 @@
 -- `table_limits::usage_of` meets its contract: the nesting falls from an entry to its operands, and a loop adds them up.
 use Prim.Native.Nat.{ℕ, ◌-◌, ◌*◌, ◌<◌}
 use Prim.{tt}
+use Rattle.std.specs.Prelude.{Some}
 use mathlib.Core.Path.{◌≡◌, refl, sym, ◌∙◌}
 use native.Mathlib.Omega.{arith}
 use lib.ListN.{length, length-drop}
@@ -11,17 +12,17 @@ use Rattle.table_limits.specs.Usage.{usage_at, Bounded}
 use Rattle.table_limits.proofs.Trees.{through_same}
 use Rattle.table_limits.proofs.Steps.{through-step, through-stop, through-done, usage-none, usage-short, usage-whole, leaf-here, leaf-found, weight-low, kept_low, alone-level, joined-level}
 use Rattle.table_limits.proofs.+usage_of.Goals as goal
-use Rattle.table_limits.proofs.+usage_of.Goals.{Joined-leaf, then-leaf, else-leaf}
+use Rattle.table_limits.proofs.+usage_of.Goals.{Joined-leaf, then-leaf, else-leaf+in_ok-u}
 
 -- what an operand takes, by whichever way it was found
 found : (t : ℕ) (c : Joined-leaf t)
     → let l = c.loop-i.rest.now in
-    (c.if-leaf.found ≡ usage_at (c.args.nesting - 1)
-    (entries_of l)) × Bounded c.if-leaf.found (length l)
+    (Some c.if-leaf.u ≡ usage_at (c.args.nesting - 1)
+    (entries_of l)) × Bounded (Some c.if-leaf.u) (length l)
 found t c =
     elim c.if-leaf.branch [
-      | then-leaf w ↦ leaf-found (c.args.nesting - 1) c.loop-i.rest.now (sym c.leaf.ensures ∙ w.if-leaf.true) (w.found-is ∙ w.leaf_usage-found.ensures)
-      | else-leaf w ↦ rw w.found-is w.usage_of-found.ensures
+      | then-leaf w ↦ leaf-found (c.args.nesting - 1) c.loop-i.rest.now (sym c.leaf.ensures ∙ w.if-leaf.true) (w.u-is ∙ w.leaf_usage-u.ensures)
+      | else-leaf+in_ok-u w ↦ rw w.u-is (rw w.in_ok-u.was at w.usage_of.ensures)
     ]
 
 pub returns-then-nesting-eq0 : goal.returns-then-nesting-eq0
@@ -52,29 +53,27 @@ loop-i-init t c =
       rw c.alone-sum.ensures a.0,
       omega arith,
       rw (c.alone-sum.ensures, a.1) (omega arith),
-      omega arith,
     )
 
-pub leaf_usage-found-requires : goal.leaf_usage-found-requires
-leaf_usage-found-requires t c =
+pub leaf_usage-u-requires : goal.leaf_usage-u-requires
+leaf_usage-u-requires t c =
     leaf-here (c.args.nesting - 1)
     c.loop-i.rest.now (sym c.leaf.ensures ∙ c.if-leaf.true)
 
 pub overflow_mul-at : goal.overflow_mul-at
-overflow_mul-at t c = omega (arith, rw c.in-Of.is at (found t (goal.at.overflow_mul-at t c).Joined-leaf).1)
+overflow_mul-at t c = omega (arith, (found t (goal.at.overflow_mul-at t c).Joined-leaf).1)
 
-pub slice_bounds-rest-count-in-Of : goal.slice_bounds-rest-count-in-Of
-slice_bounds-rest-count-in-Of t c = omega (arith, rw c.in-Of.is at (found t (goal.at.slice_bounds-rest-count-in-Of t c).Joined-leaf).1)
+pub slice_bounds-rest-count-in-loop-i : goal.slice_bounds-rest-count-in-loop-i
+slice_bounds-rest-count-in-loop-i t c = omega (arith, (found t (goal.at.slice_bounds-rest-count-in-loop-i t c).Joined-leaf).1)
 
-pub slice_bounds-rest-start-in-Of : goal.slice_bounds-rest-start-in-Of
-slice_bounds-rest-start-in-Of t c = omega (arith, rw c.in-Of.is at (found t (goal.at.slice_bounds-rest-start-in-Of t c).Joined-leaf).1)
+pub slice_bounds-rest-start-in-loop-i : goal.slice_bounds-rest-start-in-loop-i
+slice_bounds-rest-start-in-loop-i t c = omega (arith, (found t (goal.at.slice_bounds-rest-start-in-loop-i t c).Joined-leaf).1)
 
 pub join-sum-requires : goal.join-sum-requires
 join-sum-requires t c =
     omega (
       arith,
-      rw c.in-Of.is at
-          (found t (goal.at.join-sum-requires t c).Joined-leaf).1,
+      (found t (goal.at.join-sum-requires t c).Joined-leaf).1,
       c.loop-i.invariant,
       weight-low c.kind_of-kind.result
           c.loop-i.i,
@@ -86,13 +85,12 @@ overflow_add-open t c =
     omega (
       arith,
       c.well_formed,
-      rw c.in-Of.is at
-          (found t (goal.at.overflow_add-open t c).Joined-leaf).1,
+      (found t (goal.at.overflow_add-open t c).Joined-leaf).1,
       c.loop-i.invariant,
       c.kept-open.ensures,
       kept_low c.head_of-head.result
           c.loop-i.i
-          c.in-Of.u.holds,
+          c.if-leaf.u.holds,
     )
 
 pub loop-i-preserved : goal.loop-i-preserved
@@ -101,8 +99,8 @@ loop-i-preserved t c =
     let kind = c.kind_of-kind.result in
     let rest-now = c.loop-i.rest.now in
     let i = c.loop-i.i in
-    let v = c.in-Of.u in
-    let b = rw c.in-Of.is at (found t (goal.at.loop-i-preserved t c).Joined-leaf).1 in
+    let v = c.if-leaf.u in
+    let b = (found t (goal.at.loop-i-preserved t c).Joined-leaf).1 in
     let less : i
     < c.count-count.result = omega arith in
     let on = joined-level (weight_of kind
@@ -126,7 +124,7 @@ loop-i-preserved t c =
           c.loop-i.open
           c.loop-i.sum
           (entries_of rest-now) less
-          (found t (goal.at.loop-i-preserved t c).Joined-leaf).0 c.in-Of.is
+          (found t (goal.at.loop-i-preserved t c).Joined-leaf).0 refl
           ∙ rw (
             c.kept-open.ensures,
             c.join-sum.ensures,
@@ -150,19 +148,14 @@ loop-i-preserved t c =
             i v.holds,
       )),
       rw c.join-sum.ensures (omega (arith, b, c.loop-i.invariant)),
-      omega arith,
     )
 
-pub returns-in-Unread : goal.returns-in-Unread
-returns-in-Unread t c =
-    let less : c.loop-i.i < c.count-count.result = omega arith in (
-      sym (c.loop-i.invariant.0 ∙ through-stop
-          (usage_at (c.args.nesting - 1))
-          c.kind_of-kind.result
-          c.head_of-head.result
-          c.count-count.result c.loop-i.i
-          c.loop-i.open c.loop-i.sum
-          (entries_of c.loop-i.rest.now) less (found t (goal.at.returns-in-Unread t c).Joined-leaf).0 c.in-Unread.is),
+pub returns-in_err-u : goal.returns-in_err-u
+returns-in_err-u t c =
+    let less : c.loop-i.i < c.count-count.result = omega arith in
+    rw c.from_residual.ensures (
+      sym (c.loop-i.invariant.0 ∙ through-stop (usage_at (c.args.nesting - 1)) c.kind_of-kind.result c.head_of-head.result c.count-count.result
+          c.loop-i.i c.loop-i.open c.loop-i.sum (entries_of c.loop-i.rest.now) less c.usage_of.ensures.0 c.in_err-u.was),
       tt,
     )
 

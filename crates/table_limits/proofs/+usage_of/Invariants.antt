@@ -12,7 +12,4 @@ decreases-usage_of l = l.nesting
 abbrev pub invariant-loop-i : goal.invariant-loop-i
 invariant-loop-i l =
     (usage_at l.nesting (entries_of l.part) ≡ through (usage_at (l.nesting - 1)) l.kind l.head (l.count - l.i) l.i l.open l.sum (entries_of l.rest))
-    × (8 * l.sum.entries + length l.rest ≡ length l.part) × Level l.sum × (l.open ≤ l.sum.entries) × (l.i < l.sum.entries) × (l.i ≤ l.count)
-
-abbrev pub decreases-loop-i : goal.decreases-loop-i
-decreases-loop-i l = l.count - l.i
+    × (8 * l.sum.entries + length l.rest ≡ length l.part) × Level l.sum × (l.open ≤ l.sum.entries) × (l.i < l.sum.entries)
