@@ -1,6 +1,6 @@
 -- `table_check::judged` meets its contract: the table does not read, or its first fault, and where there is none its first limit, is the verdict.
 use mathlib.Core.Path.{◌≡◌, refl, ap, sym, ◌∙◌}
-use Rattle.std.specs.Prelude.{Result, Ok, Err, IsErrAnd, ⊤, ℕ}
+use Rattle.std.specs.Prelude.{Result, Ok, Err, ⊤, ℕ}
 use Rattle.std.proofs.Common.{rules}
 use Rattle.std.proofs.lemmas.Result.{MatchResult-at_ok, MatchResult-at_err, err_from_is_err_and}
 use Rattle.language.specs.Judge.{judge_table}
