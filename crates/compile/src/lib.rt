@@ -13,7 +13,6 @@ use compile_output::Cursor;
 use formats::compiled::*;
 use formats::entries::*;
 use formats::limits::*;
-use table_check::Checked;
 use values::Refusal;
 
 fn cursor(at: usize, sh: usize, dry: bool) -> Cursor
@@ -141,10 +140,8 @@ fn compile_in(
     requires { Lends table.now sizes.old env.old × Room table.now known.old × Room table.now aims.old × Room table.now ends.old }
     ensures { compile_on macro_of table.now out.old ≡ record { verdict = verdict_of result; bytes = out.new } }
 {
-    match table_check::check_in(table, sizes, env) {
-        Checked::Accepted => compile_accepted(table, sizes, env, known, aims, ends, out),
-        Checked::Refused(refusal) => Err(refusal),
-    }
+    table_check::check_in(table, sizes, env)?;
+    compile_accepted(table, sizes, env, known, aims, ends, out)
 }
 
 // For all bytes: the verdict, which is the macro's length or a refusal, and what the output then holds. The arrays are cleared at each call, so that their size goes by the number of entries.

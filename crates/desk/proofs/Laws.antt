@@ -20,8 +20,6 @@ use Rattle.compile.specs.Verdict.{verdict_of as compiled_of}
 use Rattle.desk.specs.Compiled.{compiled_numbers, Short, short}
 use Rattle.table_check.specs.Checked.{checked_of}
 use Rattle.table_check.proofs.Verdicts.{place-small}
-use Rattle.table_check.specs.declared.Checked.{Checked}
-use Rattle.table_check.specs.declared.Checked.TheVariants.{Accepted, Refused as Rejected}
 use Rattle.load_check.specs.Loaded.{loaded_of}
 use Rattle.load_check.proofs.LoadedLaws.{fields}
 use Rattle.load_check.specs.declared.Loaded.{Loaded}
@@ -33,19 +31,19 @@ use Rattle.machine_run.specs.declared.Answer.{Answer}
 use Rattle.run.specs.declared.Played.{Played}
 
 -- ── the table check ──
-abbrev checked_numbers : Checked → Numbers
-checked_numbers Accepted = done_numbers 0
-checked_numbers (Rejected r) = refusal_numbers (refusal_of r)
+abbrev checked_numbers : Result (Unit {0}) Refusal → Numbers
+checked_numbers (Ok u) = done_numbers 0
+checked_numbers (Err r) = refusal_numbers (refusal_of r)
 
 checked-numbers : (j : Judged Tree) → checked_numbers (checked_of j) ≡ verdict_numbers j
 checked-numbers (accepted t) = refl
 checked-numbers (refused r) = refl
 
-module _ (l : List ℕ) (a : Checked) (e : a ≡ checked_of (judge_table l)) where
-  pub checked : (v : Checked) → a ≡ v → packed (checked_numbers v) ≡ packed (verdict_numbers (judge_table l))
+module _ (l : List ℕ) (a : Result (Unit {0}) Refusal) (e : a ≡ checked_of (judge_table l)) where
+  pub checked : (v : Result (Unit {0}) Refusal) → a ≡ v → packed (checked_numbers v) ≡ packed (verdict_numbers (judge_table l))
   checked v d = rw (← d, e, checked-numbers (judge_table l))
 
-  pub checked-small : (r : Refusal) → a ≡ Rejected r → r.place < 16777216
+  pub checked-small : (r : Refusal) → a ≡ Err r → r.place < 16777216
   checked-small r d = let h = place-small l r (rw d at e) in omega arith
 
 -- ── the loading check ──
