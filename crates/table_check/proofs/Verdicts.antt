@@ -12,18 +12,16 @@ use Rattle.language.specs.Limits.{limits}
 use Rattle.language.specs.Judge as judge
 use Rattle.language.specs.Judge.{judge_tree, judge_table}
 use Rattle.logic.specs.Tests.{clash}
-use Rattle.table_entries.specs.declared.Fault as entries
+use Rattle.table_entries.specs.declared.Fault.{Fault}
 use Rattle.table_read.specs.Walk.{fault, reading_of}
 use Rattle.table_forms.specs.Tables.{Reads}
 use Rattle.table_names.specs.Answer.{GivesFirst, first_fault}
-use Rattle.table_names.specs.declared.faults.Faulted.{Faulted}
-use Rattle.table_names.specs.declared.faults.Faulted.TheVariants.{Faultless, Fault}
 use Rattle.table_limits.specs.Usage.{Limits, limited_of}
 use Rattle.table_check.specs.Small.{Narrow, narrow, Sixes, sixes}
 use Rattle.table_check.specs.Checked.{checked_of}
 
 -- ── reading ──
-pub unread : (l : List ℕ) (f : entries.Fault) → Err f ≡ reading_of (read_table l) → Err f ≡ reading_of (judge_table l)
+pub unread : (l : List ℕ) (f : Fault) → Err f ≡ reading_of (read_table l) → Err f ≡ reading_of (judge_table l)
 unfolding judge_table
 unread l f e = go (read_table l) e
   where
@@ -32,23 +30,23 @@ unread l f e = go (read_table l) e
     go (refused r) h = h
 
 -- ── faults, and then limits ──
-module _ (l : List ℕ) (r : Reads l) {v : Faulted} (g : GivesFirst l v) where
+module _ (l : List ℕ) (r : Reads l) {v : Result ⊤ Fault} (g : GivesFirst l v) where
   tree-judged : judge_table l ≡ judge.first_fault r.0 (faults r.0 ++ limits r.0)
   unfolding judge_table
   tree-judged = ap judge_tree r.1
 
-  pub faulty : (n p : ℕ) → v ≡ Fault n p → Err (fault n p) ≡ reading_of (judge_table l)
-  faulty n p e = rw tree-judged (go (faults r.0) (sym e ∙ g r.0 r.1))
+  pub faulty : (f : Fault) → v ≡ Err f → Err f ≡ reading_of (judge_table l)
+  faulty f e = rw tree-judged (go (faults r.0) (sym e ∙ g r.0 r.1))
     where
-      go : (fs : List Refusal) → Fault n p ≡ first_fault fs → Err (fault n p) ≡ reading_of (judge.first_fault r.0 (fs ++ limits r.0))
+      go : (fs : List Refusal) → Err f ≡ first_fault fs → Err f ≡ reading_of (judge.first_fault r.0 (fs ++ limits r.0))
       go [] h = clash (cc)
-      go (f ∷ fs) h = cc
+      go (q ∷ fs) h = h
 
-  module _ (e : v ≡ Faultless) {u : Result ⊤ ℕ} (k : Limits l u) where
+  module _ (e : v ≡ Ok tt) {u : Result ⊤ ℕ} (k : Limits l u) where
     limits-judged : judge_table l ≡ judge.first_fault r.0 (limits r.0)
     limits-judged = tree-judged ∙ go (faults r.0) (sym e ∙ g r.0 r.1)
       where
-        go : (fs : List Refusal) → Faultless ≡ first_fault fs → judge.first_fault r.0 (fs ++ limits r.0) ≡ judge.first_fault r.0 (limits r.0)
+        go : (fs : List Refusal) → Ok tt ≡ first_fault fs → judge.first_fault r.0 (fs ++ limits r.0) ≡ judge.first_fault r.0 (limits r.0)
         go [] h = refl
         go (f ∷ fs) h = clash (cc)
 
@@ -71,7 +69,7 @@ pub accepts : (j : Judged Tree) → Ok tt ≡ reading_of j → Ok tt ≡ checked
 accepts (accepted t) h = refl
 accepts (refused r) h = clash (cc)
 
-pub refuses : (j : Judged Tree) (f : entries.Fault) → Err f ≡ reading_of j → Err (coded f.number f.place) ≡ checked_of j
+pub refuses : (j : Judged Tree) (f : Fault) → Err f ≡ reading_of j → Err (coded f.number f.place) ≡ checked_of j
 refuses (accepted t) f h = clash (cc)
 refuses (refused r) f h = let z : f ≡ fault r.number r.place = cc in rw z
 

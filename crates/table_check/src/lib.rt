@@ -8,7 +8,6 @@ ghost use Rattle.table_read.specs.Filling.{Hands};
 ghost use Rattle.table_check.specs.Checked.{checked_of, Lends, Leaves};
 
 use table_entries::Fault;
-use table_names::Faulted;
 use values::Refusal;
 
 // The first fault of a table: where it does not read, its first fault of another kind, and then the first body over its limits.
@@ -17,10 +16,7 @@ fn judged(table: &[u8], sizes: &mut [u16], env: &mut [u32]) -> Result<(), Fault>
     ensures { (result ≡ reading_of (judge_table table.now)) × Hands table.now sizes.new result }
 {
     table_read::read_table(table, sizes)?;
-    match table_names::first_fault(table, sizes, env) {
-        Faulted::Faultless => {}
-        Faulted::Fault(number, place) => return Err(Fault { number, place }),
-    }
+    table_names::first_fault(table, sizes, env)?;
     table_limits::over_limits(table).map_err(|place| Fault { number: 6, place })
 }
 

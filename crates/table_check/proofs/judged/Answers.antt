@@ -33,9 +33,11 @@ first_fault-requires c =
     let r = read (goal.at.first_fault-requires c).In_ok-read_table in
     (r, known (goal.at.first_fault-requires c).In_ok-read_table, c.requires.1 (read_held c.args.table.now r.0 r.1).short)
 
-pub returns-in-Fault : goal.returns-in-Fault
-returns-in-Fault c =
-    (faulty _ (read (goal.at.returns-in-Fault c).In_ok-read_table) c.first_fault.ensures c.in-Fault.number c.in-Fault.place c.in-Fault.is, tt)
+pub returns-in_err-first_fault : goal.returns-in_err-first_fault
+returns-in_err-first_fault c =
+    let e : c.from_residual-in_err-first_fault.result ≡ Err c.in_err-first_fault.field-0.0 = search rules in
+    let r = read (goal.at.returns-in_err-first_fault c).In_ok-read_table in
+    rw e (faulty _ r c.first_fault.ensures c.in_err-first_fault.field-0.0 c.in_err-first_fault.was, tt)
 
 -- what the limits answer, as a fault
 limited : (c : After-map_err) → (p : ℕ) → c.over_limits.result ≡ Err p → c.map_err.result ≡ Err (fault 6 p)
@@ -56,5 +58,5 @@ returns c = (go c.over_limits.result refl, hands _ _ c.map_err.result (known (go
     r = read (goal.at.returns c).In_ok-read_table
 
     go : (u : Result ⊤ ℕ) → c.over_limits.result ≡ u → c.map_err.result ≡ reading_of (judge_table c.args.table.now)
-    go (Ok tt) e = MatchResult-at_ok _ _ tt e c.map_err.ensures.cases ∙ within _ r c.first_fault.ensures c.in-Faultless.is c.over_limits.ensures e
-    go (Err p) e = limited (goal.at.returns c).After-map_err p e ∙ over _ r c.first_fault.ensures c.in-Faultless.is c.over_limits.ensures p e
+    go (Ok tt) e = MatchResult-at_ok _ _ tt e c.map_err.ensures.cases ∙ within _ r c.first_fault.ensures (c.in_ok-first_fault.was ∙ ap Ok refl) c.over_limits.ensures e
+    go (Err p) e = limited (goal.at.returns c).After-map_err p e ∙ over _ r c.first_fault.ensures (c.in_ok-first_fault.was ∙ ap Ok refl) c.over_limits.ensures p e
