@@ -1,14 +1,15 @@
 -- How the code holds a flow, and what its workers may take for granted.
 use Rattle.std.specs.Prelude.{◌≡◌, Bool, true, false, cond, List, ℕ, ◌+◌, ◌*◌, ◌<◌, ◌≤◌, ltb, length, Option, Some, None}
-use Rattle.words.specs.Numbers.{byte_at}
+use Rattle.words.specs.Numbers.{byte_at, word_at}
 use Rattle.load_places.specs.Search.{tops}
-use Rattle.load_places.specs.Records.{classes, bodies, count, shapes, class_place, body_place, first_of, shape_place, address_of, least}
-use Rattle.load_places.specs.Rules.{Flow, goes, ends, bad, shape_at, body_of, end_of}
+use Rattle.load_places.specs.Records.{classes, bodies, count, shapes, class_place, body_place, first_of, code_base, code_place, shape_place, address_of, least}
+use Rattle.load_places.specs.Rules.{Flow, goes, ends, bad, shape_at, body_of, end_of, effect}
 use Rattle.load_places.specs.Index.{Well, Ended, Indexed, Placed}
 use Rattle.load_places.specs.declared.Moved.{Moved}
 use Rattle.load_places.specs.declared.Moved.TheVariants.{Goes, Ends, Bad}
 use Rattle.load_places.specs.declared.Within.{Within}
 use Rattle.load_places.specs.declared.NextShape.{NextShape}
+use Rattle.load_rules.specs.declared.located.Located.{Located}
 
 -- the type bytes stand in st from the bottom; a move says how many of them count
 abbrev pub flow_of : Moved → List ℕ → Flow
@@ -29,6 +30,10 @@ abbrev pub is_bad_move : Moved → Bool
 is_bad_move (Goes h d) = false
 is_bad_move Ends = false
 is_bad_move Bad = true
+
+-- what the op at address i of body k makes of a state
+abbrev pub effect_at : List ℕ → ℕ → ℕ → ℕ → List ℕ → Flow
+effect_at l k i h s = effect l k (byte_at l (code_place l i + 2)) (byte_at l (code_place l i + 3)) (word_at l (code_place l i + 4)) h s
 
 -- a stack of d types and h holds
 abbrev pub Stack : List ℕ → ℕ → ℕ → Type 0
@@ -55,6 +60,10 @@ pub record Able (l ix bx cx : List ℕ) : Type 0 where
   pub shaped : Shaped l ix
   pub bodied : Bodied l bx
   pub classed : Classed l cx
+
+-- a macro with its indexes, and the place of its first instruction
+abbrev pub Stands : Located → Type 0
+Stands p = Able p.code.now p.shapes.now p.bodies.now p.classes.now × (p.base ≡ code_base p.code.now)
 
 -- w is the body of address i, with its bounds
 pub record InBody (l : List ℕ) (i : ℕ) (w : Within) : Type 0 where

@@ -7,9 +7,10 @@ ghost use Rattle.load_places.specs.Rules.{op_operator, op_go, op_unless, op_call
 ghost use Rattle.load_places.specs.Rules.{op_assert, stops_by, op_stop, effect};
 ghost use Rattle.load_places.specs.Index.{Well};
 ghost use Rattle.load_rules.specs.Paired.{has_operands, cell_type, field_type};
-ghost use Rattle.load_rules.specs.Moves.{Moves, Stack, Bodied, Classed, Shaped, Able};
+ghost use Rattle.load_rules.specs.Moves.{Moves, Stack, Bodied, Classed, Shaped, Stands};
 
 use crate::lookup::{body_at, class_at, end_of};
+use crate::located::Located;
 use crate::shapes::shape_at;
 use crate::stack::{
     equal_shape, pop_after, pop_type, push_after, push_type, rebuilt, take_types, top_of,
@@ -537,10 +538,7 @@ fn op_stop(a: usize, b: usize, stack: &[u8]) -> Moved
 
 // Each answer is built anew, so that the walk has the depth in a register: handed on as it comes, it goes through memory at every address.
 pub fn effect_of(
-    code: &[u8],
-    shapes: &[u32],
-    bodies: &[u32],
-    classes: &[u32],
+    at: &Located,
     body: usize,
     op: usize,
     a: usize,
@@ -549,9 +547,11 @@ pub fn effect_of(
     holds: usize,
     depth: usize,
 ) -> Moved
-    requires { (Able code.now shapes.now bodies.now classes.now) × (body < body_count code.now) × (Stack stack.old holds depth) }
-    ensures { Moves stack.new result (effect code.now body op a b holds (tops stack.old 0 depth)) }
+    requires { (Stands at.now) × (body < body_count at.now.code.now) × (Stack stack.old holds depth) }
+    ensures { Moves stack.new result (effect at.now.code.now body op a b holds (tops stack.old 0 depth)) }
 {
+    let code = at.code;
+    let bodies = at.bodies;
     match op {
         wide::OP_END => rebuilt(op_end(body, a, b, stack, holds, depth)),
         wide::OP_INTEGER => rebuilt(op_constant(a, TYPE_INTEGER, stack, holds, depth)),
@@ -561,15 +561,15 @@ pub fn effect_of(
         wide::OP_LOAD => rebuilt(op_load(code, bodies, body, a, b, stack, holds, depth)),
         wide::OP_STORE => rebuilt(op_store(code, bodies, body, a, b, stack, holds, depth)),
         wide::OP_OPERATOR => rebuilt(op_operator(a, b, stack, holds, depth)),
-        wide::OP_GO => rebuilt(op_go(code, shapes, bodies, body, a, b, stack, holds, depth)),
+        wide::OP_GO => rebuilt(op_go(code, at.shapes, bodies, body, a, b, stack, holds, depth)),
         wide::OP_UNLESS => rebuilt(op_unless(
-            code, shapes, bodies, body, a, b, stack, holds, depth,
+            code, at.shapes, bodies, body, a, b, stack, holds, depth,
         )),
         wide::OP_CALL => rebuilt(op_call(code, bodies, a, b, stack, holds, depth)),
         wide::OP_RETURN => rebuilt(op_return(code, bodies, body, a, b, stack, holds, depth)),
-        wide::OP_MAKE => rebuilt(op_make(code, classes, a, b, stack, holds, depth)),
-        wide::OP_GET_FIELD => rebuilt(op_get_field(code, classes, a, b, stack, holds, depth)),
-        wide::OP_PUT_FIELD => rebuilt(op_put_field(code, classes, a, b, stack, holds, depth)),
+        wide::OP_MAKE => rebuilt(op_make(code, at.classes, a, b, stack, holds, depth)),
+        wide::OP_GET_FIELD => rebuilt(op_get_field(code, at.classes, a, b, stack, holds, depth)),
+        wide::OP_PUT_FIELD => rebuilt(op_put_field(code, at.classes, a, b, stack, holds, depth)),
         wide::OP_SET => rebuilt(op_set(a, b, stack, holds, depth)),
         wide::OP_FADER => rebuilt(op_fader(a, b, stack, holds, depth)),
         wide::OP_HOLD => rebuilt(op_hold(a, b, stack, holds, depth)),

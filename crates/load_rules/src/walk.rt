@@ -1,13 +1,14 @@
 // An address after another: what flows in meets the shape there, the op works on it, and what it leaves flows on.
 ghost use Rattle.std.specs.Prelude.{◌≡◌, true, false, ◌+◌, ◌≤◌, ◌<◌, length};
 ghost use Rattle.words.specs.Numbers.{byte_at, word_at};
-ghost use Rattle.load_places.specs.Records.{bodies as body_count, count, code_base, code_place};
+ghost use Rattle.load_places.specs.Records.{bodies as body_count, count};
 ghost use Rattle.load_places.specs.Index.{Well};
 ghost use Rattle.load_places.specs.Rules.{chain, effect, meet, leave, plain, opens, found};
-ghost use Rattle.load_rules.specs.Moves.{flow_of, Fit, Moves, is_bad_move, Bodied, Able, InBody, Next};
+ghost use Rattle.load_rules.specs.Moves.{flow_of, Fit, Moves, is_bad_move, effect_at, Bodied, Stands, InBody, Next};
 
 use crate::lookup::{body_at, end_of, instruction_at};
 use crate::ops::effect_of;
+use crate::located::Located;
 use crate::stack::{equal_shape, load_types, rebuilt};
 use formats::compiled::*;
 use formats::limits::*;
@@ -131,27 +132,18 @@ pub fn found_at(
 
 // What the op at the address makes of a state.
 fn effect_after(
-    code: &[u8],
-    shapes: &[u32],
-    bodies: &[u32],
-    classes: &[u32],
-    base: usize,
+    at: &Located,
     body: usize,
     address: usize,
     stack: &mut [u8],
     flow: Moved,
 ) -> Moved
-    requires { (Able code.now shapes.now bodies.now classes.now) × (base ≡ code_base code.now) × (body < body_count code.now)
-        × (address < count code.now) × (length stack.old ≡ 32) × (Fit flow) }
-    ensures { Moves stack.new result (chain (flow_of flow stack.old)
-        (λ h s. effect code.now body (byte_at code.now (code_place code.now address + 2))
-        (byte_at code.now (code_place code.now address + 3)) (word_at code.now (code_place code.now address + 4)) h s)) }
+    requires { (Stands at.now) × (body < body_count at.now.code.now) × (address < count at.now.code.now) × (length stack.old ≡ 32) × (Fit flow) }
+    ensures { Moves stack.new result (chain (flow_of flow stack.old) (λ h s. effect_at at.now.code.now body address h s)) }
 {
-    let x = instruction_at(code, base, address);
+    let x = instruction_at(at.code, at.base, address);
     match flow {
-        Moved::Goes(h, d) => effect_of(
-            code, shapes, bodies, classes, body, x.op, x.a, x.b, stack, h, d,
-        ),
+        Moved::Goes(h, d) => effect_of(at, body, x.op, x.a, x.b, stack, h, d),
         Moved::Ends => Moved::Bad,
         Moved::Bad => Moved::Bad,
     }
@@ -161,36 +153,20 @@ fn effect_after(
 // (`state_check`): with one caller on the way down to `effect_of` all of it is inlined there; with two, every address costs a call more, and what
 // it answers goes through memory (docs/SPEED.md).
 pub fn go_on(
-    code: &[u8],
-    shapes: &[u32],
-    bodies: &[u32],
-    classes: &[u32],
-    base: usize,
+    at: &Located,
     within: Within,
     next: NextShape,
     address: usize,
     stack: &mut [u8],
     flow: Moved,
 ) -> Moved
-    requires { (Able code.now shapes.now bodies.now classes.now) × (base ≡ code_base code.now) × (InBody code.now address within) × (Next code.now (address + 1) next)
-        × (address < count code.now) × (length stack.old ≡ 32) × (Fit flow) }
-    ensures { Moves stack.new result (leave code.now within.body address
-        (chain (flow_of flow stack.old) (λ h s. effect code.now within.body
-        (byte_at code.now (code_place code.now address + 2))
-        (byte_at code.now (code_place code.now address + 3)) (word_at code.now (code_place code.now address + 4)) h s))) }
+    requires { (Stands at.now) × (InBody at.now.code.now address within) × (Next at.now.code.now (address + 1) next)
+        × (address < count at.now.code.now) × (length stack.old ≡ 32) × (Fit flow) }
+    ensures { Moves stack.new result (leave at.now.code.now within.body address
+        (chain (flow_of flow stack.old) (λ h s. effect_at at.now.code.now within.body address h s))) }
 {
-    let e = effect_after(
-        code,
-        shapes,
-        bodies,
-        classes,
-        base,
-        within.body,
-        address,
-        stack,
-        flow,
-    );
-    rebuilt(leave_to(code, within, next, address, stack, e))
+    let e = effect_after(at, within.body, address, stack, flow);
+    rebuilt(leave_to(at.code, within, next, address, stack, e))
 }
 
 // Where the walk begins: the first body.

@@ -6,7 +6,7 @@ use Rattle.load_rules.proofs.walk.effect_after.Goals as goal
 
 pub effect_of-requires : goal.effect_of-requires
 effect_of-requires c =
-    let w = fit-goes _ _ _ c.requires.5 c.in-Goes.is in (c.requires.0, c.requires.2, (c.requires.4, w.1, w.0))
+    let w = fit-goes _ _ _ c.requires.4 c.in-Goes.is in (c.requires.0, c.requires.1, (c.requires.3, w.1, w.0))
 
 pub returns-in-Goes : goal.returns-in-Goes
 returns-in-Goes c = (
