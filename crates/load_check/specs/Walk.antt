@@ -2,7 +2,7 @@
 -- the verdict follow from it. The soundness test goes along with this walk.
 
 -- ── what flows on, with the types in a lent stack; the walk's indexes; the body of an address, with its bounds; the next shape ──
-pub use Rattle.load_rules.specs.Moves.{flow_of, Fit, Moves, Able, InBody, Next}
+pub use Rattle.load_rules.specs.Moves.{flow_of, Fit, Moves, Able, Stands, InBody, Next}
 -- ── a step of the walk from the state that came in, its flag, the next address ──
 pub use Rattle.load_rules.proofs.Walking.{into-none, walk-flag, walk-on}
 pub use Rattle.load_rules.proofs.Chains.{fit-goes}

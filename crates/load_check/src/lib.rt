@@ -6,8 +6,8 @@ mod root;
 
 pub use load_records::{bad_head, no_type, scan};
 pub use load_rules::{
-    body_at, class_at, first_body, first_shape, found_at, go_on, instruction_at, is_bad, next_body,
-    shape_after,
+    Located, body_at, class_at, first_body, first_shape, found_at, go_on, instruction_at, is_bad,
+    next_body, shape_after,
 };
 pub use root::root_at;
 use values::Refusal;

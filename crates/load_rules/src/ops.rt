@@ -9,8 +9,8 @@ ghost use Rattle.load_places.specs.Index.{Well};
 ghost use Rattle.load_rules.specs.Paired.{has_operands, cell_type, field_type};
 ghost use Rattle.load_rules.specs.Moves.{Moves, Stack, Bodied, Classed, Shaped, Stands};
 
-use crate::lookup::{body_at, class_at, end_of};
 use crate::located::Located;
+use crate::lookup::{body_at, class_at, end_of};
 use crate::shapes::shape_at;
 use crate::stack::{
     equal_shape, pop_after, pop_type, push_after, push_type, rebuilt, take_types, top_of,

@@ -6,9 +6,9 @@ ghost use Rattle.load_places.specs.Index.{Well};
 ghost use Rattle.load_places.specs.Rules.{chain, effect, meet, leave, plain, opens, found};
 ghost use Rattle.load_rules.specs.Moves.{flow_of, Fit, Moves, is_bad_move, effect_at, Bodied, Stands, InBody, Next};
 
+use crate::located::Located;
 use crate::lookup::{body_at, end_of, instruction_at};
 use crate::ops::effect_of;
-use crate::located::Located;
 use crate::stack::{equal_shape, load_types, rebuilt};
 use formats::compiled::*;
 use formats::limits::*;
@@ -131,13 +131,7 @@ pub fn found_at(
 }
 
 // What the op at the address makes of a state.
-fn effect_after(
-    at: &Located,
-    body: usize,
-    address: usize,
-    stack: &mut [u8],
-    flow: Moved,
-) -> Moved
+fn effect_after(at: &Located, body: usize, address: usize, stack: &mut [u8], flow: Moved) -> Moved
     requires { (Stands at.now) × (body < body_count at.now.code.now) × (address < count at.now.code.now) × (length stack.old ≡ 32) × (Fit flow) }
     ensures { Moves stack.new result (chain (flow_of flow stack.old) (λ h s. effect_at at.now.code.now body address h s)) }
 {

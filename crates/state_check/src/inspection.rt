@@ -7,7 +7,7 @@ ghost use Rattle.load_places.specs.Rules.{body_of, found, into, broken};
 ghost use Rattle.load_places.specs.Index.{Indexed};
 ghost use Rattle.load_check.specs.Lookups.{Bodied, Classed};
 ghost use Rattle.load_check.specs.Loaded.{loaded_of};
-ghost use Rattle.load_check.specs.Walk.{flow_of, Fit, Able};
+ghost use Rattle.load_check.specs.Walk.{flow_of, Fit, Stands};
 ghost use Rattle.state_sound.specs.Each.{each};
 ghost use Rattle.state_sound.specs.Fits.{address_in, stands_in, activations_in};
 ghost use Rattle.state_check.specs.Tested.{Counted, AnyCounted, AnySized, args_fit, standing, Upto, Tests};
@@ -20,7 +20,7 @@ use formats::compiled::*;
 use formats::limits::*;
 use formats::state::*;
 use formats::wide;
-use load_check::Loaded;
+use load_check::{Loaded, Located};
 use load_places::Moved;
 use values::Refusal;
 
@@ -307,24 +307,21 @@ pub struct Tested {
 
 // The first address with a fault, or the count; there also whether the activations fit where they stand.
 fn walk_tests(
-    code: &[u8],
-    shapes: &[u32],
-    bodies: &[u32],
-    classes: &[u32],
-    base: usize,
+    at: &Located,
     stack: &mut [u8],
     state: &[u8],
     records: usize,
     activations: usize,
 ) -> Tested
-    requires { (Able code.now shapes.now bodies.now classes.now) × (base ≡ code_base code.now) × (length stack.old ≡ 32) × (AnyCounted code.now state.now activations)
-        × (records ≤ 256) }
-    ensures { Tests code.now state.now records activations result.at result.ok }
+    requires { (Stands at.now) × (length stack.old ≡ 32) × (AnyCounted at.now.code.now state.now activations) × (records ≤ 256) }
+    ensures { Tests at.now.code.now state.now records activations result.at result.ok }
 {
+    let code = at.code;
+    let bodies = at.bodies;
     let stop = words::wide::half_at(code, CODE_COUNT_AT);
     let mut address: usize = 0;
     let mut here = load_check::first_body(code, bodies);
-    let mut shape = load_check::first_shape(code, base, stop);
+    let mut shape = load_check::first_shape(code, at.base, stop);
     let mut flow = Moved::Ends;
     let mut ok = true;
     let mut next = next_wanted(state, activations, 0);
@@ -344,9 +341,7 @@ fn walk_tests(
             ok,
             next,
         );
-        let e = load_check::go_on(
-            code, shapes, bodies, classes, base, here, after, address, stack, g,
-        );
+        let e = load_check::go_on(at, here, after, address, stack, g);
         if load_check::is_bad(e) {
             return Tested {
                 at: address,
@@ -427,12 +422,15 @@ fn inspect_in(
         Ok(base) => {
             let plain = sized_fits(code, bodies, classes, base, state);
             let counts = count_wanted(state, plain);
-            let w = walk_tests(
+            let located = Located {
                 code,
                 shapes,
                 bodies,
                 classes,
                 base,
+            };
+            let w = walk_tests(
+                &located,
                 &mut stack,
                 state,
                 counts.records,

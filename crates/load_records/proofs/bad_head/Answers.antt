@@ -26,13 +26,6 @@ returns-then-code-lt1 c =
     let no-mark = c.no_mark in
     sym (law.head-3 _ (sym no-mark.ensures ∙ if1.false) (omega arith) (omega arith))
 
-pub bounds-code-3-2 : goal.bounds-code-3-2
-bounds-code-3-2 c =
-    let if1 = c.if-no_mark in
-    let no-mark = c.no_mark in
-    let h = law.room _ _ _ _ _ (sym no-mark.ensures ∙ if1.false) in
-    omega arith
-
 pub returns : goal.returns
 returns c =
     let if1 = c.if-no_mark in

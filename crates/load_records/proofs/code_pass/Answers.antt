@@ -10,12 +10,6 @@ use Rattle.load_records.proofs.code_pass.Goals as goal
 pub loop-i-init : goal.loop-i-init
 loop-i-init c = seek-start _ _
 
-pub bounds-code-p : goal.bounds-code-p
-bounds-code-p c = omega (arith, c.whole_code-whole.ensures.2 (c.loop-i.i - 1) (omega arith))
-
-pub bounds-code-p-in-loop-i : goal.bounds-code-p-in-loop-i
-bounds-code-p-in-loop-i c = omega (arith, c.whole_code-whole.ensures.2 (c.loop-i.i - 1) (omega arith))
-
 pub loop-i-preserved : goal.loop-i-preserved
 loop-i-preserved c =
     let m = law.code-mark _ _ c.requires.0 (c.loop-i.i - 1) _ (c.whole_code-whole.ensures.2 (c.loop-i.i - 1) (omega arith)) c.unmarked.ensures in

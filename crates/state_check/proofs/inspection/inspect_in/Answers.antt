@@ -30,9 +30,11 @@ walk_tests-w-requires c =
     let plain = c.sized_fits-plain in
     let w = telling.wanted c.args.code.now c.args.state.now plain.result counts.result.activations counts.result.records
     plain.ensures counts.ensures.0 counts.ensures.1 in (
-      rule.able-ready _ _ _ _ _ R (omega (arith, scan.auto.shapes, pre.1, pre.2)) (omega (arith, scan.auto.bodies, pre.3))
-          (omega (arith, scan.auto.classes, pre.4)),
-      R.based,
+      (
+        rule.able-ready _ _ _ _ _ R (omega (arith, scan.auto.shapes, pre.1, pre.2)) (omega (arith, scan.auto.bodies, pre.3))
+            (omega (arith, scan.auto.classes, pre.4)),
+        R.based,
+      ),
       refl,
       telling.counted _ _ _ _ _ plain.ensures counts.ensures.0 w,
       w.small,

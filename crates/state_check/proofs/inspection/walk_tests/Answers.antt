@@ -10,25 +10,25 @@ use Rattle.state_check.proofs.inspection.walk_tests.Goals as goal
 
 pub half_at-stop-requires : goal.half_at-stop-requires
 half_at-stop-requires c =
-    omega (arith, (head_of _ c.requires.0.bodied.well).bytes)
+    omega (arith, (head_of _ c.requires.0.0.bodied.well).bytes)
 
 pub first_body-here-requires : goal.first_body-here-requires
 first_body-here-requires c =
-    c.requires.0.bodied
+    c.requires.0.0.bodied
 
 pub first_shape-shape-requires : goal.first_shape-shape-requires
 first_shape-shape-requires c =
-    (c.requires.0.bodied.well, c.requires.0.shaped.ended, c.requires.1, c.half_at-stop.ensures.0, c.half_at-stop.ensures.1)
+    (c.requires.0.0.bodied.well, c.requires.0.0.shaped.ended, c.requires.0.1, c.half_at-stop.ensures.0, c.half_at-stop.ensures.1)
 
 pub next_wanted-next-requires : goal.next_wanted-next-requires
 next_wanted-next-requires c =
-    let counted = c.requires.3 in λ s. ((counted s).long, (counted s).few)
+    let counted = c.requires.2 in λ s. ((counted s).long, (counted s).few)
 
 pub loop-address-init : goal.loop-address-init
 loop-address-init c = (
   omega arith,
   c.first_body-here.ensures,
-  c.requires.2,
+  c.requires.1,
   (rule.into-none _, tt),
   clean-none _,
   law.begins _ _ _ _ _ c.next_wanted-next.ensures,
@@ -38,17 +38,17 @@ loop-address-init c = (
 pub found_at-g-requires : goal.found_at-g-requires
 found_at-g-requires c =
     let I = c.loop-address.invariant in
-    (c.requires.0.bodied, I.1, I.6, I.2, I.3.1, omega (arith, c.half_at-stop.ensures.0))
+    (c.requires.0.0.bodied, I.1, I.6, I.2, I.3.1, omega (arith, c.half_at-stop.ensures.0))
 
 pub shape_after-after-requires : goal.shape_after-after-requires
 shape_after-after-requires c =
-    (c.requires.0.bodied.well, c.requires.0.shaped.ended, c.loop-address.invariant.6, omega (arith, c.half_at-stop.ensures.0))
+    (c.requires.0.0.bodied.well, c.requires.0.0.shaped.ended, c.loop-address.invariant.6, omega (arith, c.half_at-stop.ensures.0))
 
 pub look-w-requires : goal.look-w-requires
 look-w-requires c = (
-  c.requires.0.bodied,
+  c.requires.0.0.bodied,
+  c.requires.2,
   c.requires.3,
-  c.requires.4,
   c.found_at-g.auto.stack ∙ c.loop-address.invariant.2,
   c.found_at-g.ensures.1,
   omega (arith, c.half_at-stop.ensures.1),
@@ -60,7 +60,6 @@ look-w-requires c = (
 pub go_on-e-requires : goal.go_on-e-requires
 go_on-e-requires c = (
   c.requires.0,
-  c.requires.1,
   c.loop-address.invariant.1,
   c.shape_after-after.ensures,
   omega (arith, c.half_at-stop.ensures.0),
@@ -69,7 +68,7 @@ go_on-e-requires c = (
 )
 
 pub shape_of-stack-then-is_bad : goal.shape_of-stack-then-is_bad
-shape_of-stack-then-is_bad c = (c.go_on-e.auto.stack ∙ c.found_at-g.auto.stack ∙ c.loop-address.invariant.2) ∙ sym c.requires.2
+shape_of-stack-then-is_bad c = (c.go_on-e.auto.stack ∙ c.found_at-g.auto.stack ∙ c.loop-address.invariant.2) ∙ sym c.requires.1
 
 pub returns-then-is_bad : goal.returns-then-is_bad
 returns-then-is_bad c =
@@ -82,7 +81,7 @@ returns-then-is_bad c =
 
 pub next_body-here-requires : goal.next_body-here-requires
 next_body-here-requires c =
-    (c.requires.0.bodied, c.loop-address.invariant.1, omega (arith, c.loop-address-test.true, c.half_at-stop.ensures.0))
+    (c.requires.0.0.bodied, c.loop-address.invariant.1, omega (arith, c.loop-address-test.true, c.half_at-stop.ensures.0))
 
 pub overflow_add-address : goal.overflow_add-address
 overflow_add-address c =
@@ -106,7 +105,7 @@ loop-address-preserved c =
 
 pub shape_of-stack : goal.shape_of-stack
 shape_of-stack c =
-    c.loop-address.invariant.2 ∙ sym c.requires.2
+    c.loop-address.invariant.2 ∙ sym c.requires.1
 
 pub returns : goal.returns
 returns c =
