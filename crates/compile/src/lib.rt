@@ -2,7 +2,7 @@
 // (refusal 7), and the walk that writes it.
 #![tactic(auto)]
 
-ghost use Rattle.std.specs.Prelude.{◌≡◌, ◌≤◌, length};
+ghost use Rattle.std.specs.Prelude.{◌≡◌, ◌≤◌, length, replicate};
 ghost use Rattle.language.specs.Judge.{compile_on};
 ghost use Rattle.table_check.specs.Checked.{Lends};
 ghost use Rattle.compile_code.specs.Encode.{macro_of};
@@ -144,37 +144,29 @@ fn compile_in(
     compile_accepted(table, sizes, env, known, aims, ends, out)
 }
 
-// For all bytes: the verdict, which is the macro's length or a refusal, and what the output then holds. The arrays are cleared at each call, so that their size goes by the number of entries.
-pub fn compile(table: &[u8], out: &mut [u8]) -> Result<usize, Refusal>
+// With arrays of these sizes: a number for each of N entries, and M for the names in sight.
+fn within<const N: usize, const M: usize>(table: &[u8], out: &mut [u8]) -> Result<usize, Refusal>
+    requires { Lends table.now (replicate N 0) (replicate M 0) × Room table.now (replicate N 0) × (M ≤ 16384) }
     ensures { compile_on macro_of table.now out.old ≡ record { verdict = verdict_of result; bytes = out.new } }
 {
-    let bytes = table.len();
-    if bytes <= 512 {
-        let mut sizes = [0u16; 64];
-        let mut env = [0u32; 512];
-        let mut known = [0u32; 64];
-        let mut aims = [0u16; 64];
-        let mut ends = [0u16; 64];
-        return compile_in(
-            table, &mut sizes, &mut env, &mut known, &mut aims, &mut ends, out,
-        );
-    }
-    if bytes <= 4096 {
-        let mut sizes = [0u16; 512];
-        let mut env = [0u32; 4096];
-        let mut known = [0u32; 512];
-        let mut aims = [0u16; 512];
-        let mut ends = [0u16; 512];
-        return compile_in(
-            table, &mut sizes, &mut env, &mut known, &mut aims, &mut ends, out,
-        );
-    }
-    let mut sizes = [0u16; 2048];
-    let mut env = [0u32; 16384];
-    let mut known = [0u32; 2048];
-    let mut aims = [0u16; 2048];
-    let mut ends = [0u16; 2048];
+    let mut sizes = [0u16; N];
+    let mut env = [0u32; M];
+    let mut known = [0u32; N];
+    let mut aims = [0u16; N];
+    let mut ends = [0u16; N];
     compile_in(
         table, &mut sizes, &mut env, &mut known, &mut aims, &mut ends, out,
     )
+}
+
+// For all bytes: the verdict, which is the macro's length or a refusal, and what the output then holds. The arrays are cleared at each call, so that
+// their size goes by the number of entries.
+pub fn compile(table: &[u8], out: &mut [u8]) -> Result<usize, Refusal>
+    ensures { compile_on macro_of table.now out.old ≡ record { verdict = verdict_of result; bytes = out.new } }
+{
+    match table.len() {
+        0..=512 => within::<64, 512>(table, out),
+        513..=4096 => within::<512, 4096>(table, out),
+        _ => within::<2048, 16384>(table, out),
+    }
 }
