@@ -47,9 +47,9 @@ module _ (w d : ℕ) (p : Cursor) where
   unfolding cursor_between
   between-2 e = rw e
 
-  pub between-3 : w ≡ 3 → cursor_between w d p ≡ cursor_shaped d (moved (moved (moved p)))
+  pub between-3 : ¬ (w ≡ 0) → ¬ (w ≡ 1) → ¬ (w ≡ 2) → cursor_between w d p ≡ cursor_shaped d (moved (moved (moved p)))
   unfolding cursor_between
-  between-3 e = rw e
+  between-3 a b c = rw (ne_eqb _ _ a, ne_eqb _ _ b, ne_eqb _ _ c)
 
   pub behind-2 : w ≡ 2 → cursor_behind w d p ≡ cursor_shaped (d + 1) (moved (cursor_shaped d (moved p)))
   unfolding cursor_behind
@@ -58,6 +58,10 @@ module _ (w d : ℕ) (p : Cursor) where
   pub behind-3 : w ≡ 3 → cursor_behind w d p ≡ cursor_shaped (d + 1) p
   unfolding cursor_behind
   behind-3 e = rw e
+
+  pub behind-0 : ¬ (w ≡ 2) → ¬ (w ≡ 3) → cursor_behind w d p ≡ moved p
+  unfolding cursor_behind
+  behind-0 a b = rw (ne_eqb _ _ a, ne_eqb _ _ b)
 
 -- ── heads ──
 module _ (k : ℕ) (p : Cursor) where

@@ -70,6 +70,7 @@ pub fn owner(p: Cursor, known: u32) -> u8
 }
 
 // The instruction of an expression with nothing below it.
+#[tactic(auto, unfolding(crate::specs::EmitEntry::emit_leaf))]
 pub fn leaf(kind: u16, b: u32, known: u32, out: &mut [u8], p: Cursor) -> Cursor
     requires { Fits (moved p) (length out.old) }
     ensures { (result ≡ moved p) × (out.new ≡ emit_leaf kind b known p out.old) }
@@ -89,6 +90,7 @@ pub fn leaf(kind: u16, b: u32, known: u32, out: &mut [u8], p: Cursor) -> Cursor
     }
 }
 
+#[tactic(auto, unfolding(crate::specs::EmitEntry::leaf_type))]
 pub fn leaf_type(kind: u16, known: u32) -> u8
     ensures { result ≡ leaf_type kind known }
 {
@@ -101,23 +103,20 @@ pub fn leaf_type(kind: u16, known: u32) -> u8
 }
 
 // The expressions below an entry that has no other operands.
+#[tactic(auto, unfolding(crate::specs::EmitEntry::operands_by))]
 pub fn operands_of(kind: u16, b: u32) -> usize
     ensures { result ≡ operands_by kind b }
 {
     match kind {
-        KIND_ASSERT => 1,
-        KIND_CALL => b as usize,
+        KIND_CALL | KIND_FUNCTION | KIND_RECORD => b as usize,
         KIND_SET => 2,
-        KIND_FUNCTION => b as usize,
-        KIND_FIELD => 1,
-        KIND_RECORD => b as usize,
-        KIND_UNARY => 1,
-        KIND_FADER => 1,
+        KIND_ASSERT | KIND_FIELD | KIND_UNARY | KIND_FADER => 1,
         _ => 0,
     }
 }
 
 // The instruction of an entry with expressions only below it.
+#[tactic(auto, unfolding(crate::specs::EmitEntry::emit_last))]
 pub fn last(kind: u16, a: u16, known: u32, out: &mut [u8], p: Cursor) -> Cursor
     requires { Fits (moved p) (length out.old) }
     ensures { (result ≡ moved p) × (out.new ≡ emit_last kind a known p out.old) }
@@ -126,9 +125,8 @@ pub fn last(kind: u16, a: u16, known: u32, out: &mut [u8], p: Cursor) -> Cursor
     let second = compile_symbols::second_in(known);
     match kind {
         KIND_ASSERT => compile_output::emit(out, p, OP_ASSERT, 0, 0),
-        KIND_CALL => compile_output::emit(out, p, OP_CALL, 0, second),
+        KIND_CALL | KIND_FUNCTION => compile_output::emit(out, p, OP_CALL, 0, second),
         KIND_SET => compile_output::emit(out, p, OP_SET, 0, 0),
-        KIND_FUNCTION => compile_output::emit(out, p, OP_CALL, 0, second),
         KIND_FIELD => compile_output::emit(out, p, OP_GET_FIELD, first, second),
         KIND_RECORD => compile_output::emit(out, p, OP_MAKE, first, 0),
         KIND_UNARY => compile_output::emit(out, p, OP_OPERATOR, (a % 256) as u8, 0),
@@ -137,13 +135,12 @@ pub fn last(kind: u16, a: u16, known: u32, out: &mut [u8], p: Cursor) -> Cursor
 }
 
 // The type of its result, by that of its first operand.
+#[tactic(auto, unfolding(crate::specs::EmitEntry::last_type))]
 pub fn last_type(kind: u16, a: u16, known: u32, first: u8) -> u8
     ensures { result ≡ last_type kind a known first }
 {
     match kind {
-        KIND_FUNCTION => compile_symbols::type_in(known),
-        KIND_FIELD => compile_symbols::type_in(known),
-        KIND_RECORD => compile_symbols::type_in(known),
+        KIND_FUNCTION | KIND_FIELD | KIND_RECORD => compile_symbols::type_in(known),
         KIND_UNARY => if a == 22 { first } else { TYPE_INTEGER },
         _ => TYPE_INTEGER,
     }
@@ -342,6 +339,7 @@ pub enum Way {
     IfFalse,
 }
 
+#[tactic(auto, unfolding(crate::specs::EmitEntry::way_by))]
 pub fn way_of(operator: u16, first: u8) -> Way
     ensures { number_of_way result ≡ way_by operator first }
 {
@@ -416,6 +414,7 @@ pub fn behind(
 }
 
 // The type of the result, by that of the first operand.
+#[tactic(auto, unfolding(crate::specs::EmitEntry::pair_type))]
 pub fn pair_type(operator: u16, first: u8) -> u8
     ensures { result ≡ pair_type operator first }
 {

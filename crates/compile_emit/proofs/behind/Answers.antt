@@ -1,14 +1,20 @@
 -- `compile_emit::behind` meets its contract.
-use mathlib.Core.Logic.{inl, inr}
-use mathlib.Core.Path.{refl, ap}
+use mathlib.Core.Logic.{◌⊎◌, inl, inr}
+use mathlib.Core.Path.{◌≡◌, refl, ap}
 use native.Mathlib.Omega.{arith}
-use Prim.Native.Nat.{◌+◌}
+use Prim.Native.Nat.{ℕ, ◌+◌}
 use lib.ListN.{length, take}
 use Rattle.compile_output.specs.declared.Cursor.{Cursor}
 use Rattle.compile_output.specs.EmitRecord.{moved, cursor_shaped}
-use Rattle.compile_emit.specs.EmitEntryLaws.{fits-op, op_fits, fits-mark, mark-fits, behind-2, behind-3}
+use Rattle.compile_emit.specs.EmitEntryLaws.{fits-op, op_fits, fits-mark, mark-fits, behind-0, behind-2, behind-3}
 use Rattle.compile_emit.specs.EmitEntry.{cursor_behind, emit_behind, number_of_way}
+use Rattle.compile_emit.specs.declared.Way.{Way}
+use Rattle.compile_emit.specs.declared.Way.TheVariants.{Plain, Marked}
 use Rattle.compile_emit.proofs.behind.Goals as goal
+
+first-needed : {w : Way} (d : ℕ) (p : Cursor) → (w ≡ Plain) ⊎ (w ≡ Marked) → cursor_behind (number_of_way w) d p ≡ moved p
+first-needed d p (inl e) = let k = ap number_of_way e in behind-0 _ d p (λ h. omega (arith, h, k)) (λ h. omega (arith, h, k))
+first-needed d p (inr e) = let k = ap number_of_way e in behind-0 _ d p (λ h. omega (arith, h, k)) (λ h. omega (arith, h, k))
 
 pub emit-q-requires : goal.emit-q-requires
 emit-q-requires c =
@@ -54,8 +60,7 @@ shape-requires-in-IfFalse c =
     (omega arith, omega arith, omega arith, f)
 
 pub emit-requires : goal.emit-requires
-unfolding cursor_behind
-emit-requires c = elim c.in-Plain.is [ inl e ↦ rw e at c.requires.4 | inr e ↦ rw e at c.requires.4 ]
+emit-requires c = rw (first-needed c.args.depth c.args.p c.in-Plain.is) at c.requires.4
 
 pub returns-in-IfTrue : goal.returns-in-IfTrue
 unfolding cursor_behind emit_behind
