@@ -344,8 +344,16 @@ pub fn way_of(operator: u16, first: u8) -> Way
     ensures { number_of_way result ≡ way_by operator first }
 {
     match operator {
-        12 => if first == TYPE_LOGICAL { Way::IfTrue } else { Way::Marked },
-        13 => if first == TYPE_LOGICAL { Way::IfFalse } else { Way::Marked },
+        12 => if first == TYPE_LOGICAL {
+            Way::IfTrue
+        } else {
+            Way::Marked
+        },
+        13 => if first == TYPE_LOGICAL {
+            Way::IfFalse
+        } else {
+            Way::Marked
+        },
         _ => Way::Plain,
     }
 }
@@ -409,7 +417,13 @@ pub fn behind(
             compile_output::shape(out, s, holds, stack, depth + 1)
         }
         Way::IfFalse => compile_output::shape(out, p, holds, stack, depth + 1),
-        Way::Plain | Way::Marked => compile_output::emit(out, p, OP_OPERATOR, (operator % 256) as u8, 0),
+        Way::Plain | Way::Marked => compile_output::emit(
+            out,
+            p,
+            OP_OPERATOR,
+            (operator % 256) as u8,
+            0,
+        ),
     }
 }
 

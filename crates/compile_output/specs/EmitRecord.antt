@@ -1,6 +1,6 @@
 -- What one instruction and one shape come to: the cursor after it, and the output's bytes after it.
-use Rattle.std.specs.Prelude.{◌≡◌, refl, Bool, true, false, List, ◌∷◌, ◌++◌, ℕ, suc, ◌+◌, ◌^◌, ◌≤◌, ◌<◌, length, set, take, drop}
-use Rattle.std.proofs.Common.{ap, sym, ◌∙◌, arith, length-take-le}
+use Rattle.std.specs.Prelude.{◌≡◌, refl, Bool, true, false, List, ◌∷◌, ◌++◌, ℕ, ◌+◌, ◌^◌, ◌≤◌, ◌<◌, length, set, take, drop}
+use Rattle.std.proofs.Common.{ap, sym, ◌∙◌, length-take-le}
 use Rattle.std.proofs.Math.Numerals.{towards_suc}
 use Rattle.std.proofs.lemmas.List.Edits.{sets, sets-eq}
 use Rattle.std.proofs.Math.Seq.{length-sets, paste}

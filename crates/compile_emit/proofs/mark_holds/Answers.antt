@@ -12,11 +12,11 @@ push-requires c = omega (arith, c.loop-i.invariant.same)
 
 pub loop-i-preserved : goal.loop-i-preserved
 loop-i-preserved c =
-  marks-push c.args.env.now
-      c.loop-i.env c.push.new.env
-      c.args.top c.loop-i.i
-      (omega (arith, c.loop-i.invariant.same)) c.loop-i.invariant
-      c.push.ensures
+    marks-push c.args.env.now
+    c.loop-i.env c.push.new.env
+    c.args.top c.loop-i.i
+    (omega (arith, c.loop-i.invariant.same)) c.loop-i.invariant
+    c.push.ensures
 
 pub shape_of-env : goal.shape_of-env
 shape_of-env c = c.loop-i.invariant.same
