@@ -14,10 +14,8 @@ pub fn clear(state: &mut [u8], place: usize, count: usize)
     requires { place + count ≤ length state.old }
     ensures { state.new ≡ sets state.old place (zeros count) }
 {
-    let mut k = 0;
-    while k < count {
+    for k in 0..count {
         state[place + k] = 0;
-        k += 1;
     }
 }
 

@@ -8,18 +8,17 @@ use native.Mathlib.Omega.{arith}
 use Rattle.machine_frames.proofs.phases.clear.Goals as goal
 
 pub loop-k-init : goal.loop-k-init
-loop-k-init c = (omega arith, refl, none-cleared _ _)
+loop-k-init c = (refl, none-cleared _ _)
 
 pub loop-k-preserved : goal.loop-k-preserved
 loop-k-preserved c = (
-  omega arith,
-  simp length-set c.loop-k.invariant.1,
+  simp length-set c.loop-k.invariant.0,
   ap (λ (l : List ℕ). set l (c.args.place + c.loop-k.k) 0)
-      c.loop-k.invariant.2 ∙ one-cleared _ _ _,
+      c.loop-k.invariant.1 ∙ one-cleared _ _ _,
 )
 
 pub shape_of-state : goal.shape_of-state
-shape_of-state c = c.loop-k.invariant.1
+shape_of-state c = c.loop-k.invariant.0
 
 pub returns : goal.returns
-returns c = let e : c.loop-k.k ≡ c.args.count = omega arith in rw (← e) c.loop-k.invariant.2
+returns c = let e : c.loop-k.k ≡ c.args.count = omega arith in rw (← e) c.loop-k.invariant.1

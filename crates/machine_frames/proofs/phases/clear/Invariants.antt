@@ -1,12 +1,8 @@
 use Rattle.bytecode.specs.State.{zeros}
-use Prim.Native.Nat.{◌-◌, ◌≤◌}
 use lib.Seq.{sets}
 use lib.ListN.{length}
 use mathlib.Core.Path.{◌≡◌}
 use Rattle.machine_frames.proofs.phases.clear.Given as goal
 
 abbrev pub invariant-loop-k : goal.invariant-loop-k
-invariant-loop-k l = (l.k ≤ l.count) × (length l.state ≡ length l.initial.state) × (l.state ≡ sets l.initial.state l.place (zeros l.k))
-
-abbrev pub decreases-loop-k : goal.decreases-loop-k
-decreases-loop-k l = l.count - l.k
+invariant-loop-k l = (length l.state ≡ length l.initial.state) × (l.state ≡ sets l.initial.state l.place (zeros l.k))
