@@ -10,9 +10,7 @@ pub fn drop_operands(state: &mut [u8], frame: usize, depth: usize, count: usize)
     requires { (length state.old ≡ state_length) × (frame ≤ 10200) × (depth ≤ 32) × (count ≤ depth) }
     ensures { state.new ≡ dropped state.old frame depth count }
 {
-    let mut k = depth;
-    while depth - count < k {
-        k -= 1;
+    for k in (depth - count..depth).rev() {
         machine_frames::pop(state, frame, k);
     }
 }
@@ -29,12 +27,10 @@ pub fn move_operands(
     requires { (length state.old ≡ state_length) × (frame ≤ 10200) × (k + count ≤ 32) × (words + 4 * count ≤ state_length) × (types + count ≤ state_length) }
     ensures { state.new ≡ filled state.old frame k words types count }
 {
-    let mut j = 0;
-    while j < count {
+    for j in 0..count {
         let w = machine_frames::operand_word(state, frame, k + j);
         let t = machine_frames::operand_type(state, frame, k + j);
         machine_frames::put_value(state, words + WORD_BYTES * j, types + j, w, t);
-        j += 1;
     }
 }
 
@@ -43,9 +39,7 @@ pub fn begin_cells(code: &[u8], place: usize, state: &mut [u8], g: usize, p: usi
     requires { (length state.old ≡ state_length) × (g ≤ 10200) × (p ≤ c) × (c ≤ 32) × (place + c ≤ length code.now) }
     ensures { state.new ≡ begun code.now place state.old g p (c - p) }
 {
-    let mut j = p;
-    while j < c {
+    for j in p..c {
         machine_frames::put_cell(state, g, j, 0, code[place + j]);
-        j += 1;
     }
 }

@@ -5,19 +5,17 @@ use Rattle.machine_ops.proofs.MoveLoops.{begin-next, begin-end}
 use Rattle.machine_ops.proofs.moves.begin_cells.Goals as goal
 
 pub loop-j-init : goal.loop-j-init
-loop-j-init c = (omega arith, omega arith, refl, refl)
+loop-j-init c = (refl, refl)
 
 pub loop-j-preserved : goal.loop-j-preserved
 loop-j-preserved c = (
-  omega arith,
-  omega arith,
-  c.put_cell.auto.state ∙ c.loop-j.invariant.2,
+  c.put_cell.auto.state ∙ c.loop-j.invariant.0,
   begin-next c.args.code.now _ _ _ _ _ _ _ _ (omega arith)
-      c.loop-j.invariant.3 c.put_cell.ensures,
+      c.loop-j.invariant.1 c.put_cell.ensures,
 )
 
 pub shape_of-state : goal.shape_of-state
-shape_of-state c = c.loop-j.invariant.2
+shape_of-state c = c.loop-j.invariant.0
 
 pub returns : goal.returns
-returns c = begin-end c.args.code.now _ _ _ _ _ _ _ (omega arith) c.loop-j.invariant.3
+returns c = begin-end c.args.code.now _ _ _ _ _ _ _ (omega arith) c.loop-j.invariant.1
