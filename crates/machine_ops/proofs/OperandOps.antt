@@ -1,5 +1,5 @@
 -- Ops 1 to 7 on the plain machine, from what the calls of each op's function ensure.
-use mathlib.Core.Path.{◌≡◌, refl, ◌∙◌}
+use mathlib.Core.Path.{◌≡◌, refl, ap, ◌∙◌}
 use mathlib.Core.List.{List, [], ◌∷◌}
 use mathlib.Core.Logic.{◌⊎◌, inl, inr}
 use mathlib.Core.Option.{Option, none, some}
@@ -25,9 +25,11 @@ use Rattle.logic.specs.ListLaws.{index_below}
 use Rattle.bytecode_layout.specs.Steps.{activation}
 use Rattle.machine_frames.specs.Bytes.{went_to, pushed, popped, operand_set, cell_set, conditioned}
 use Rattle.machine_frames.specs.On.{on-push, on-pop, on-operand, on-cell, on-root, on-condition, read-operand, read-cell, read-root}
-use Rattle.machine_ops.specs.declared.operators.Worked.{Worked}
-use Rattle.machine_ops.specs.declared.operators.Worked.TheVariants as worked
-use Rattle.machine_ops.specs.Works.{Says, Works1}
+use Rattle.std.specs.Prelude.{Ok, Err}
+use Rattle.values.specs.Answers.{number_of}
+use Rattle.values.specs.declared.conditions.Condition.{Condition}
+use Rattle.machine_ops.specs.declared.operators.Typed.{Typed}
+use Rattle.machine_ops.specs.Works.{Worked, typed, Says, Works1}
 use Rattle.machine_ops.specs.declared.Out.{Out}
 use Rattle.machine_ops.specs.declared.Out.TheVariants.{Goes}
 use Rattle.machine_ops.specs.Acts.{here, Now, Told, Tells, Pushes}
@@ -40,10 +42,10 @@ condition-tells c k e m rs t fs N = record { are = (e ∙ on-condition N.on (few
 -- what an outcome that was worked out tells
 module _ (m : Macro) (rs : Shared) (t : Activation) (fs : List Activation) (r : Worked) (k : List ℕ) (o : Out) where
   by-outcome : (x : Outcome Value) (vs : List Value) → Says x r
-      → ((v : Value) → r ≡ worked.Gives (value_word v) (type_byte v) → Told (goes_on [] (v ∷ vs) (here rs t fs)) k o)
-      → ((c : ℕ) → r ≡ worked.Ends c → Told (condition c (here rs t fs)) k o) → Told (settled x vs (here rs t fs)) k o
+      → ((v : Value) → r ≡ Ok (typed (value_word v) (type_byte v)) → Told (goes_on [] (v ∷ vs) (here rs t fs)) k o)
+      → ((d : Condition) → r ≡ Err d → Told (condition (number_of d) (here rs t fs)) k o) → Told (settled x vs (here rs t fs)) k o
   by-outcome (gives v) vs s g e = g v s
-  by-outcome (ends c) vs s g e = e c s
+  by-outcome (ends c) vs s g e = rw s.number (e s.condition s.is)
   by-outcome mistyped vs s g e = record { are = tt }
 
 module _ {l : List ℕ} {f n i : ℕ} where
@@ -108,8 +110,8 @@ module _ {l : List ℕ} {f n i : ℕ} where
       (ey : y ≡ byte_at l (f + (operand_types_at + (n - 1)))) (W : Works1 a y x r) where
     unary-by : (k : List ℕ) (z : Out)
         → ((m : Macro) (rs : Shared) (c0 a0 : ℕ) (cs : List Cell) (v : Value) (vs : List Value) (gs : List ℕ) (fs : List Activation) → Now m l f n i rs (activation c0 a0 cs (v ∷ vs) gs) fs
-        → (u : Value) → r ≡ worked.Gives (value_word u) (type_byte u) → Told (goes_on [] (u ∷ vs) (here rs (activation c0 a0 cs (v ∷ vs) gs) fs)) k z)
-        → ((c : ℕ) → r ≡ worked.Ends c → Tells (λ m h. condition c h) l f n i k z)
+        → (u : Value) → r ≡ Ok (typed (value_word u) (type_byte u)) → Told (goes_on [] (u ∷ vs) (here rs (activation c0 a0 cs (v ∷ vs) gs) fs)) k z)
+        → ((d : Condition) → r ≡ Err d → Tells (λ m h. condition (number_of d) h) l f n i k z)
         → (o : Unary) → unary_of a ≡ some o → Tells (λ m h. do_operate (unary o) h) l f n i k z
     unfolding do_operate
     unary-by k z G E o eo m rs t fs N = go t.body t.address t.cells t.operands t.holds N
@@ -123,17 +125,16 @@ module _ {l : List ℕ} {f n i : ℕ} where
             let s : Says (apply1 o v) r = rw (← vb, ← rd.0, ← ex) (W o (ty_of v) eo (ey ∙ rd.1) (rw (ex ∙ rd.0) (word-valid v))) in
             by-outcome m rs (activation c0 a0 cs (v ∷ vs) gs) fs r k z (apply1 o v) vs s (λ u eu. G m rs c0 a0 cs v vs gs fs N u eu) (λ c ec. E c ec m rs _ fs N)
 
-    pub unary-gives : (w u : ℕ) (k1 k2 : List ℕ) → r ≡ worked.Gives w u → k1 ≡ operand_set l f (n - 1) w u → k2 ≡ went_to k1 f (i + 1)
+    pub unary-gives : (w : Typed) (k1 k2 : List ℕ) → r ≡ Ok w → k1 ≡ operand_set l f (n - 1) w.word w.ty → k2 ≡ went_to k1 f (i + 1)
         → (o : Unary) → unary_of a ≡ some o → Tells (λ m h. do_operate (unary o) h) l f n i k2 Goes
-    unary-gives w u k1 k2 er e1 e2 = unary-by k2 Goes
+    unary-gives w k1 k2 er e1 e2 = unary-by k2 Goes
         (λ m rs c0 a0 cs v vs gs fs N z ez.
-        let ew : w ≡ value_word z = cc in
-        let eu : u ≡ type_byte z = cc in
-        let p = on-operand z w u ew eu [] v vs N.on (n - 1) (omega (arith, N.depth)) (omega arith) in
+        let e : w ≡ typed (value_word z) (type_byte z) = cc in
+        let p = on-operand z w.word w.ty (ap (λ (q : Typed). q.word) e) (ap (λ (q : Typed). q.ty) e) [] v vs N.on (n - 1) (omega (arith, N.depth)) (omega arith) in
         goes-on (activation c0 a0 cs (v ∷ vs) gs) [] Goes p k2 (i + 1) (e2 ∙ rw e1) (omega (arith, N.address)) refl)
         (λ c ec. let z : ◌≡◌ {A = ℕ} 0 1 = cc in absurd (omega arith))
 
-    pub unary-ends : (c : ℕ) (k : List ℕ) (z : Out) → r ≡ worked.Ends c → Tells (λ m h. condition c h) l f n i k z
+    pub unary-ends : (c : Condition) (k : List ℕ) (z : Out) → r ≡ Err c → Tells (λ m h. condition (number_of c) h) l f n i k z
         → (o : Unary) → unary_of a ≡ some o → Tells (λ m h. do_operate (unary o) h) l f n i k z
     unary-ends c k z er C = unary-by k z
         (λ m rs c0 a0 cs v vs gs fs N u eu. let q : ◌≡◌ {A = ℕ} 0 1 = cc in absurd (omega arith))

@@ -19,29 +19,36 @@ use Rattle.values.specs.Operators.{Unary, negate, absolute, complement, Binary, 
 use Rattle.values.specs.Operators.{both, either, shift_left, shift_right, unary_of, binary_of}
 use Rattle.values.specs.Arithmetic.{Outcome, gives, ends, mistyped, sum, difference, product, quotient, rest, negation, magnitude, each_bit, and_bits, or_bits, not_bits, shifted_left, shifted_right}
 use Rattle.values.specs.Values.{int, log, map_outcome, arithmetic, ordering, shift, junction, equality, same_integer, same_ref, as_integer, asked, apply1, apply2}
-use Rattle.machine_ops.specs.declared.operators.Worked.{Worked}
-use Rattle.machine_ops.specs.declared.operators.Worked.TheVariants.{Gives}
-use Rattle.machine_ops.specs.Works.{worked, Says, Works1, Works2}
+use Rattle.values.specs.Answers.{outcome_of}
+use Rattle.values.specs.declared.conditions.Condition.{Condition}
+use Rattle.std.specs.Prelude.{Result, Ok, Err}
+use Rattle.machine_ops.specs.Works.{Worked, typed, worked, Says, Works1, Works2}
+
+abbrev Gives : ℕ → ℕ → Worked
+Gives w t = Ok (typed w t)
 
 -- an integer is held as its word
 pub held : (x : ℕ) (z : ℤ) → z ≡ integer_of x → Fits w32 x → to_z w32 (of_z w32 z) ≡ integer_of x
 held x z e f = to_z-of_z w32 z (rw e (to_z-Fits w32 x f)) ∙ e
 
-number : (o : Outcome ℤ) → Says (map_outcome int o) (worked o)
-number (gives z) = refl
-number (ends c) = refl
-number mistyped = tt
+number : (z : Result ℤ Condition) → Says (map_outcome int (outcome_of z)) (worked z)
+number (Ok z) = refl
+number (Err e) = record { condition = e; is = refl; number = refl }
+
+of-outcome : (o : Outcome ℤ) (z : Result ℤ Condition) → outcome_of z ≡ o → Says (map_outcome int o) (worked z)
+of-outcome o z e = rw (← e) (number z)
 
 -- ── by sort ──
 module _ (x y : ℕ) where
-  arithmetic-says : (f : ℤ → ℤ → Outcome ℤ) (ty tu : Ty) → Says (arithmetic f (word_value ty x) (word_value tu y)) (worked (f (integer_of x) (integer_of y)))
-  arithmetic-says f integer integer = number (f (integer_of x) (integer_of y))
-  arithmetic-says f integer logical = tt
-  arithmetic-says f integer bits = tt
-  arithmetic-says f integer (reference d) = tt
-  arithmetic-says f logical tu = tt
-  arithmetic-says f bits tu = tt
-  arithmetic-says f (reference c) tu = tt
+  arithmetic-says : (f : ℤ → ℤ → Outcome ℤ) (z : Result ℤ Condition) → outcome_of z ≡ f (integer_of x) (integer_of y) → (ty tu : Ty)
+      → Says (arithmetic f (word_value ty x) (word_value tu y)) (worked z)
+  arithmetic-says f z e integer integer = of-outcome (f (integer_of x) (integer_of y)) z e
+  arithmetic-says f z e integer logical = tt
+  arithmetic-says f z e integer bits = tt
+  arithmetic-says f z e integer (reference d) = tt
+  arithmetic-says f z e logical tu = tt
+  arithmetic-says f z e bits tu = tt
+  arithmetic-says f z e (reference c) tu = tt
 
   ordering-says : (f : ℤ → ℤ → Bool) (ty tu : Ty) → Says (ordering f (word_value ty x) (word_value tu y)) (Gives (log_word (f (integer_of x) (integer_of y))) 2)
   ordering-says f integer integer = refl
@@ -136,31 +143,32 @@ module _ {n t x y : ℕ} {a b : ℤ} (O : Operands n t x y a b) (r : Worked) whe
       let s : o ≡ o' = cc in
       rw (← s) (f ty tu et h k)
 
-  by-arithmetic : (f : ℤ → ℤ → Outcome ℤ) (o : Binary) → binary_of n ≡ some o → apply2 o ≡ arithmetic f → r ≡ worked (f a b) → Works2 n t x y r
-  by-arithmetic f o e q er = sort-2 o e (λ ty tu et h k. rw (q, er, O.left, O.right) (arithmetic-says x y f ty tu))
+  by-arithmetic : (f : ℤ → ℤ → Outcome ℤ) (o : Binary) → binary_of n ≡ some o → apply2 o ≡ arithmetic f → (z : Result ℤ Condition) → outcome_of z ≡ f a b → r ≡ worked z
+      → Works2 n t x y r
+  by-arithmetic f o e q z ez er = sort-2 o e (λ ty tu et h k. rw (q, er) (arithmetic-says x y f z (ez ∙ rw (O.left, O.right)) ty tu))
 
   by_ordering : (f : ℤ → ℤ → Bool) (o : Binary) → binary_of n ≡ some o → apply2 o ≡ ordering f → r ≡ Gives (log_word (f a b)) 2 → Works2 n t x y r
   by_ordering f o e q er = sort-2 o e (λ ty tu et h k. rw (q, er, O.left, O.right) (ordering-says x y f ty tu))
 
-  pub works-plus : n ≡ 1 → r ≡ worked (sum a b) → Works2 n t x y r
+  pub works-plus : n ≡ 1 → (z : Result ℤ Condition) → outcome_of z ≡ sum a b → r ≡ worked z → Works2 n t x y r
   unfolding binary_of apply2
-  works-plus e er = by-arithmetic sum plus (rw e) refl er
+  works-plus e z ez er = by-arithmetic sum plus (rw e) refl z ez er
 
-  pub works-minus : n ≡ 2 → r ≡ worked (difference a b) → Works2 n t x y r
+  pub works-minus : n ≡ 2 → (z : Result ℤ Condition) → outcome_of z ≡ difference a b → r ≡ worked z → Works2 n t x y r
   unfolding binary_of apply2
-  works-minus e er = by-arithmetic difference minus (rw e) refl er
+  works-minus e z ez er = by-arithmetic difference minus (rw e) refl z ez er
 
-  pub works-times : n ≡ 3 → r ≡ worked (product a b) → Works2 n t x y r
+  pub works-times : n ≡ 3 → (z : Result ℤ Condition) → outcome_of z ≡ product a b → r ≡ worked z → Works2 n t x y r
   unfolding binary_of apply2
-  works-times e er = by-arithmetic product times (rw e) refl er
+  works-times e z ez er = by-arithmetic product times (rw e) refl z ez er
 
-  pub works-divide : n ≡ 4 → r ≡ worked (quotient a b) → Works2 n t x y r
+  pub works-divide : n ≡ 4 → (z : Result ℤ Condition) → outcome_of z ≡ quotient a b → r ≡ worked z → Works2 n t x y r
   unfolding binary_of apply2
-  works-divide e er = by-arithmetic quotient divide (rw e) refl er
+  works-divide e z ez er = by-arithmetic quotient divide (rw e) refl z ez er
 
-  pub works-remainder : n ≡ 5 → r ≡ worked (rest a b) → Works2 n t x y r
+  pub works-remainder : n ≡ 5 → (z : Result ℤ Condition) → outcome_of z ≡ rest a b → r ≡ worked z → Works2 n t x y r
   unfolding binary_of apply2
-  works-remainder e er = by-arithmetic rest remainder (rw e) refl er
+  works-remainder e z ez er = by-arithmetic rest remainder (rw e) refl z ez er
 
   pub works-less : n ≡ 6 → r ≡ Gives (log_word (lt_z a b)) 2 → Works2 n t x y r
   unfolding binary_of apply2
@@ -237,19 +245,19 @@ module _ (n t x : ℕ) (r : Worked) where
       let s : o ≡ o' = cc in
       rw (← s) (f ty et h)
 
-  integer-says : (f : ℤ → Outcome ℤ) (ty : Ty) → Says (asked (as_integer (word_value ty x)) (λ z. map_outcome int (f z))) (worked (f (integer_of x)))
-  integer-says f integer = number (f (integer_of x))
-  integer-says f logical = tt
-  integer-says f bits = tt
-  integer-says f (reference c) = tt
+  integer-says : (f : ℤ → Outcome ℤ) (z : Result ℤ Condition) → outcome_of z ≡ f (integer_of x) → (ty : Ty) → Says (asked (as_integer (word_value ty x)) (λ z. map_outcome int (f z))) (worked z)
+  integer-says f z e integer = of-outcome (f (integer_of x)) z e
+  integer-says f z e logical = tt
+  integer-says f z e bits = tt
+  integer-says f z e (reference c) = tt
 
-  pub works-negate : (a : ℤ) → a ≡ integer_of x → n ≡ 20 → r ≡ worked (negation a) → Works1 n t x r
+  pub works-negate : (a : ℤ) → a ≡ integer_of x → n ≡ 20 → (z : Result ℤ Condition) → outcome_of z ≡ negation a → r ≡ worked z → Works1 n t x r
   unfolding unary_of apply1
-  works-negate a ea e er = sort-1 negate (rw e) (λ ty et h. rw (er, ea) (integer-says negation ty))
+  works-negate a ea e z ez er = sort-1 negate (rw e) (λ ty et h. rw er (integer-says negation z (ez ∙ rw ea) ty))
 
-  pub works-absolute : (a : ℤ) → a ≡ integer_of x → n ≡ 21 → r ≡ worked (magnitude a) → Works1 n t x r
+  pub works-absolute : (a : ℤ) → a ≡ integer_of x → n ≡ 21 → (z : Result ℤ Condition) → outcome_of z ≡ magnitude a → r ≡ worked z → Works1 n t x r
   unfolding unary_of apply1
-  works-absolute a ea e er = sort-1 absolute (rw e) (λ ty et h. rw (er, ea) (integer-says magnitude ty))
+  works-absolute a ea e z ez er = sort-1 absolute (rw e) (λ ty et h. rw er (integer-says magnitude z (ez ∙ rw ea) ty))
 
   -- the last: on logical values and on bits
   module _ (n1 : n ≡ 20 → ⊥) (n2 : n ≡ 21 → ⊥) where

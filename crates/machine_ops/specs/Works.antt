@@ -1,5 +1,5 @@
 -- Operators on words with type bytes: what is to be answered for the outcome on the values that they stand for.
-use Rattle.std.specs.Prelude.{◌≡◌, true, ℕ, ℤ}
+use Rattle.std.specs.Prelude.{◌≡◌, true, ℕ, ℤ, Result, Ok, Err}
 use Rattle.std.proofs.Math.Option.{some}
 use Rattle.bytecode.specs.Words.{value_word, valid_word, word_value}
 use Rattle.words.specs.Numbers.{word_of}
@@ -7,19 +7,32 @@ use Rattle.values.specs.Types.{Ty, ty_byte}
 use Rattle.values.specs.Operators.{Unary, Binary, unary_of, binary_of}
 use Rattle.values.specs.Arithmetic.{Outcome, gives, ends, mistyped}
 use Rattle.values.specs.Values.{Value, ty_of, apply1, apply2}
-use Rattle.machine_ops.specs.declared.operators.Worked.{Worked}
-use Rattle.machine_ops.specs.declared.operators.Worked.TheVariants.{Gives, Ends}
+use Rattle.values.specs.Answers.{number_of}
+use Rattle.values.specs.declared.conditions.Condition.{Condition}
+use Rattle.machine_ops.specs.declared.operators.Typed.{Typed}
+
+-- what is answered: a word with its type byte, or a condition
+abbrev pub Worked : Type 0
+Worked = Result Typed Condition
+
+abbrev pub typed : ℕ → ℕ → Typed
+typed w t = record { word = w; ty = t }
 
 -- a result on integers, as a word with the type byte 1
-abbrev pub worked : Outcome ℤ → Worked
-worked (gives z) = Gives (word_of z) 1
-worked (ends c) = Ends c
-worked mistyped = Ends 0  -- no operator on integers gives it
+abbrev pub worked : Result ℤ Condition → Worked
+worked (Ok z) = Ok (typed (word_of z) 1)
+worked (Err e) = Err e
+
+-- the condition with number c
+pub record Breaks (c : ℕ) (r : Worked) : Type 0 where
+  pub condition : Condition
+  pub is : r ≡ Err condition
+  pub number : c ≡ number_of condition
 
 -- of operands that an operator does not take nothing is said
 abbrev pub Says : Outcome Value → Worked → Type 0
-Says (gives v) r = r ≡ Gives (value_word v) (ty_byte (ty_of v))
-Says (ends c) r = r ≡ Ends c
+Says (gives v) r = r ≡ Ok (typed (value_word v) (ty_byte (ty_of v)))
+Says (ends c) r = Breaks c r
 Says mistyped r = Unit {0}
 
 -- operator number n on the word x of type byte t

@@ -17,7 +17,7 @@ pub use events::{op_assert, op_fader, op_set};
 pub use holds::{op_end, op_hold, op_release};
 pub use jumps::{op_go, op_unless};
 pub use operands::{op_condition, op_load, op_operate, op_push, op_store, owner};
-pub use operators::{Worked, binary};
+pub use operators::{Typed, binary};
 pub use records::{op_get_field, op_make, op_put_field};
 
 #[derive(Drop)]

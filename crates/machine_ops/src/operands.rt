@@ -6,7 +6,6 @@ ghost use Rattle.values.specs.Operators.{Operator, Unary, unary, unary_of};
 ghost use Rattle.bytecode.specs.Machine.{do_load, do_store, do_operate, condition};
 ghost use Rattle.machine_ops.specs.Acts.{Room, Tells, Pushes};
 
-use crate::operators::Worked;
 use crate::{Out, operators};
 use formats::state::*;
 
@@ -71,12 +70,12 @@ fn op_unary(state: &mut [u8], frame: usize, depth: usize, address: u16, a: u8) -
     let x = machine_frames::operand_word(state, frame, k);
     let t = machine_frames::operand_type(state, frame, k);
     match operators::unary(a, t, x) {
-        Worked::Gives(w, u) => {
-            machine_frames::put_operand(state, frame, k, w, u);
+        Ok(v) => {
+            machine_frames::put_operand(state, frame, k, v.word, v.ty);
             machine_frames::go_to(state, frame, address + 1);
             Out::Goes
         }
-        Worked::Ends(c) => op_condition(state, frame, depth, address, c),
+        Err(c) => op_condition(state, frame, depth, address, c.number()),
     }
 }
 

@@ -1,72 +1,38 @@
 // Op 7: the operators on values as a run state holds them, words of 32 bits with a type byte.
 ghost use Rattle.std.specs.Prelude.{◌≡◌, eqb};
 ghost use Rattle.bytecode.specs.Words.{log_word};
-ghost use Rattle.values.specs.Answers.{outcome_of};
-ghost use Rattle.values.specs.Arithmetic.{settle as exactly, sum, difference, product};
 ghost use Rattle.values.specs.Values.{same_integer};
 ghost use Rattle.words.specs.Numbers.{integer_of};
 ghost use Rattle.logic.specs.Choice.{If◌then◌else◌};
-ghost use Rattle.machine_ops.specs.Works.{worked, Works1, Works2};
-ghost use Rattle.machine_ops.specs.declared.operators.Worked.TheVariants.{Gives};
+ghost use Rattle.machine_ops.specs.Works.{typed, worked, Works1, Works2};
 
 use formats::compiled::*;
 use values::Condition;
 
-// A word and its type byte, or the condition that ends execution in its place.
-#[derive(Drop)]
-pub enum Worked {
-    Gives(u32, u8),
-    Ends(u8),
+// A word and its type byte.
+#[derive(Clone, Copy)]
+pub struct Typed {
+    pub word: u32,
+    pub ty: u8,
 }
 
-fn number(c: Result<i32, Condition>) -> Worked
-    ensures { result ≡ worked (outcome_of c) }
+fn number(c: Result<i32, Condition>) -> Result<Typed, Condition>
+    ensures { result ≡ worked c }
 {
-    match c {
-        Ok(z) => Worked::Gives(words::word_of(z), TYPE_INTEGER),
-        Err(e) => Worked::Ends(e.number()),
+    let z = c?;
+    Ok(Typed {
+        word: words::word_of(z),
+        ty: TYPE_INTEGER,
+    })
+}
+
+fn truth(b: bool) -> Typed
+    ensures { result ≡ typed (log_word b) 2 }
+{
+    Typed {
+        word: b as u32,
+        ty: TYPE_LOGICAL,
     }
-}
-
-// An exact result of +, − or ×, brought into 32 bits. It is not handed on as a `Result`: that has eight bytes, which LLVM packs into one register, and
-// whether it overflowed then is a conditional move that the result waits for, where here it is a branch, which is foreseen.
-fn settled(z: i64) -> Worked
-    ensures { result ≡ worked (exactly z) }
-{
-    if z < -2147483648 {
-        return Worked::Ends(values::OVERFLOW);
-    }
-    if 2147483647 < z {
-        return Worked::Ends(values::OVERFLOW);
-    }
-    Worked::Gives(words::word_of(z as i32), TYPE_INTEGER)
-}
-
-fn plus(x: i32, y: i32) -> Worked
-    ensures { result ≡ worked (sum x y) }
-{
-    settled((x as i64) + (y as i64))
-}
-
-fn minus(x: i32, y: i32) -> Worked
-    ensures { result ≡ worked (difference x y) }
-{
-    settled((x as i64) - (y as i64))
-}
-
-fn times(x: i32, y: i32) -> Worked
-    ensures { result ≡ worked (product x y) }
-{
-    settled((x as i64) * (y as i64))
-}
-
-fn truth(b: bool) -> Worked
-    ensures { result ≡ Gives (log_word b) 2 }
-{
-    if b {
-        return Worked::Gives(1, TYPE_LOGICAL);
-    }
-    Worked::Gives(0, TYPE_LOGICAL)
 }
 
 // The words of two values of one type are equal where the values are.
@@ -79,7 +45,7 @@ fn same(t: u8, x: u32, y: u32) -> bool
     x == y
 }
 
-pub fn unary(op: u8, t: u8, x: u32) -> Worked
+pub fn unary(op: u8, t: u8, x: u32) -> Result<Typed, Condition>
     ensures { Works1 op t x result }
 {
     match op {
@@ -87,34 +53,49 @@ pub fn unary(op: u8, t: u8, x: u32) -> Worked
         21 => number(values::absolute(words::integer_of(x))),
         _ => {
             if t == TYPE_LOGICAL {
-                return truth(x == 0);
+                return Ok(truth(x == 0));
             }
-            Worked::Gives(values::not_bits(x), t)
+            Ok(Typed {
+                word: values::not_bits(x),
+                ty: t,
+            })
         }
     }
 }
 
 // t is the type byte of x.
-pub fn binary(op: u8, t: u8, x: u32, y: u32) -> Worked
+pub fn binary(op: u8, t: u8, x: u32, y: u32) -> Result<Typed, Condition>
     ensures { Works2 op t x y result }
 {
     let a = words::integer_of(x);
     let b = words::integer_of(y);
     match op {
-        1 => plus(a, b),
-        2 => minus(a, b),
-        3 => times(a, b),
+        1 => number(values::add(a, b)),
+        2 => number(values::subtract(a, b)),
+        3 => number(values::multiply(a, b)),
         4 => number(values::divide(a, b)),
         5 => number(values::remainder(a, b)),
-        6 => truth(values::less(a, b)),
-        7 => truth(values::at_most(a, b)),
-        8 => truth(values::greater(a, b)),
-        9 => truth(values::at_least(a, b)),
-        10 => truth(same(t, x, y)),
-        11 => truth(!same(t, x, y)),
-        12 => Worked::Gives(values::and_bits(x, y), t),
-        13 => Worked::Gives(values::or_bits(x, y), t),
-        14 => Worked::Gives(values::shift_left(x, b), t),
-        _ => Worked::Gives(values::shift_right(x, b), t),
+        6 => Ok(truth(values::less(a, b))),
+        7 => Ok(truth(values::at_most(a, b))),
+        8 => Ok(truth(values::greater(a, b))),
+        9 => Ok(truth(values::at_least(a, b))),
+        10 => Ok(truth(same(t, x, y))),
+        11 => Ok(truth(!same(t, x, y))),
+        12 => Ok(Typed {
+            word: values::and_bits(x, y),
+            ty: t,
+        }),
+        13 => Ok(Typed {
+            word: values::or_bits(x, y),
+            ty: t,
+        }),
+        14 => Ok(Typed {
+            word: values::shift_left(x, b),
+            ty: t,
+        }),
+        _ => Ok(Typed {
+            word: values::shift_right(x, b),
+            ty: t,
+        }),
     }
 }

@@ -21,19 +21,19 @@ returns-in_default c =
     s.0.1 s.1 r.0.0.0.0.0.0.1 r.0.0.0.0.0.1 r.0.0.0.0.1 r.0.0.0.1 r.0.0.1 r.0.1 r.1 (rw c.shift_right.ensures)
 
 pub returns-in-1 : goal.returns-in-1
-returns-in-1 c = works-plus (operands c.integer_of-a.ensures c.integer_of-b.ensures c.ranges.x c.ranges.y) _ c.in-1.is (rw c.plus.ensures)
+returns-in-1 c = works-plus (operands c.integer_of-a.ensures c.integer_of-b.ensures c.ranges.x c.ranges.y) _ c.in-1.is _ c.add.ensures c.number.ensures
 
 pub returns-in-2 : goal.returns-in-2
-returns-in-2 c = works-minus (operands c.integer_of-a.ensures c.integer_of-b.ensures c.ranges.x c.ranges.y) _ c.in-2.is (rw c.minus.ensures)
+returns-in-2 c = works-minus (operands c.integer_of-a.ensures c.integer_of-b.ensures c.ranges.x c.ranges.y) _ c.in-2.is _ c.subtract.ensures c.number-in-2.ensures
 
 pub returns-in-3 : goal.returns-in-3
-returns-in-3 c = works-times (operands c.integer_of-a.ensures c.integer_of-b.ensures c.ranges.x c.ranges.y) _ c.in-3.is (rw c.times.ensures)
+returns-in-3 c = works-times (operands c.integer_of-a.ensures c.integer_of-b.ensures c.ranges.x c.ranges.y) _ c.in-3.is _ c.multiply.ensures c.number-in-3.ensures
 
 pub returns-in-4 : goal.returns-in-4
-returns-in-4 c = works-divide (operands c.integer_of-a.ensures c.integer_of-b.ensures c.ranges.x c.ranges.y) _ c.in-4.is (rw (c.number.ensures, c.divide.ensures))
+returns-in-4 c = works-divide (operands c.integer_of-a.ensures c.integer_of-b.ensures c.ranges.x c.ranges.y) _ c.in-4.is _ c.divide.ensures c.number-in-4.ensures
 
 pub returns-in-5 : goal.returns-in-5
-returns-in-5 c = works-remainder (operands c.integer_of-a.ensures c.integer_of-b.ensures c.ranges.x c.ranges.y) _ c.in-5.is (rw (c.number-in-5.ensures, c.remainder.ensures))
+returns-in-5 c = works-remainder (operands c.integer_of-a.ensures c.integer_of-b.ensures c.ranges.x c.ranges.y) _ c.in-5.is _ c.remainder.ensures c.number-in-5.ensures
 
 pub returns-in-6 : goal.returns-in-6
 returns-in-6 c = works-less (operands c.integer_of-a.ensures c.integer_of-b.ensures c.ranges.x c.ranges.y) _ c.in-6.is (rw (c.truth.ensures, c.less.ensures))

@@ -1,8 +1,0 @@
--- `machine_ops::operators::truth` meets its contract.
-use Rattle.machine_ops.proofs.operators.truth.Goals as goal
-
-pub returns-then-b : goal.returns-then-b
-returns-then-b c = rw c.if-b.true
-
-pub returns : goal.returns
-returns c = rw c.if-b.false
