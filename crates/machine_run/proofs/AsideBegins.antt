@@ -13,7 +13,8 @@ use Rattle.bytecode.specs.Sound.{sound}
 use Rattle.bytecode.specs.State.{encode, state_length}
 use Rattle.load_check.specs.Lookups.{code_of}
 use Rattle.machine_frames.specs.Bytes.{went_to, pushed, popped}
-use Rattle.machine_run.specs.declared.aside.Landing.TheVariants as landing
+use Rattle.std.specs.Prelude.{Ok, Err}
+use Rattle.machine_run.specs.declared.aside.Landing.{Landing}
 use Rattle.machine_run.specs.Held.{Found, Held, Poised, Since, Reaches}
 use Rattle.machine_run.specs.Aside.{Coded, Aside, One, Leads, Begin, loads, pushes, takes, Lands, Grows}
 use Rattle.machine_run.proofs.OpAsks.{room, asks-load, asks-operate}
@@ -91,18 +92,18 @@ module _ {code readings : List ℕ} {k : ℕ} {b₀ : Since} {l : List ℕ} {f a
   one-step (takes e h T es) = omega arith
 
   -- steps are taken
-  pub grows : (base : ℕ) → op ≡ byte_at code (base + 8 * at' + 2) → a ≡ byte_at code (base + 8 * at' + 3) → i < k → {l' : List ℕ} {w t d s : ℕ} (x j : ℕ) → Begin l f n op a b l' w t d s
-      → Grows code (base + 8 * (at' + s)) (i + s) k (landing.Lands x j) → i < j
-  grows base eo ea more x j (loads e c et el ed es) G = omega (arith, G.0)
-  grows base eo ea more x j (pushes e ew et el ed es) G = omega (arith, G.0)
-  grows base eo ea more {s = s} x j (takes e h T es) G =
+  pub grows : (base : ℕ) → op ≡ byte_at code (base + 8 * at' + 2) → a ≡ byte_at code (base + 8 * at' + 3) → i < k → {l' : List ℕ} {w t d s : ℕ} (r : Landing) → Begin l f n op a b l' w t d s
+      → Grows code (base + 8 * (at' + s)) (i + s) k (Ok r) → i < r.taken
+  grows base eo ea more r (loads e c et el ed es) G = omega (arith, G.0)
+  grows base eo ea more r (pushes e ew et el ed es) G = omega (arith, G.0)
+  grows base eo ea more {s = s} r (takes e h T es) G =
       let p : base + 8 * (at' + s) ≡ base + 8 * at' = omega arith in
       let e7 : byte_at code (base + 8 * (at' + s) + 2) ≡ 7 = ap (λ (z : ℕ). byte_at code (z + 2)) p ∙ sym eo ∙ e in
       let e3 : byte_at code (base + 8 * (at' + s) + 3) ≡ a = ap (λ (z : ℕ). byte_at code (z + 3)) p ∙ sym ea in
       omega (arith, G.1 e7 (omega arith) (omega arith))
 
-  pub landed : {l' l'' : List ℕ} {w t d x j : ℕ} (s : ℕ) → Set l' w t d s → Lands code readings k f (went_to (pushed l' f d w t) f (at' + s)) (i + s) l'' (landing.Lands x j) → length l'' ≡ length l
-      → i ≤ j → Loop code readings k b₀ l'' f x j
+  pub landed : {l' l'' : List ℕ} {w t d : ℕ} {r : Landing} (s : ℕ) → Set l' w t d s → Lands code readings k f (went_to (pushed l' f d w t) f (at' + s)) (i + s) l'' (Ok r) → length l'' ≡ length l
+      → i ≤ r.taken → Loop code readings k b₀ l'' f r.address r.taken
   landed s S L e h =
       record {
         upto = L.0.upto;
@@ -113,6 +114,6 @@ module _ {code readings : List ℕ} {k : ℕ} {b₀ : Since} {l : List ℕ} {f a
         kept = record { phase = L.1; place = L.2; address = L.3 };
       }
 
-  pub broken : {l' l'' : List ℕ} {w t d j : ℕ} (s : ℕ) → Set l' w t d s → Lands code readings k f (went_to (pushed l' f d w t) f (at' + s)) (i + s) l'' (landing.Breaks j)
+  pub broken : {l' l'' : List ℕ} {w t d j : ℕ} (s : ℕ) → Set l' w t d s → Lands code readings k f (went_to (pushed l' f d w t) f (at' + s)) (i + s) l'' (Err j)
       → Held code l'' × (byte_at l'' 0 ≡ 1) × (j ≤ k) × Reaches code readings k b₀ l'' j
   broken s S L = (L.0.held, L.1, L.0.upto, L.0.leads b₀ (S.1 b₀ R.loop.reached))

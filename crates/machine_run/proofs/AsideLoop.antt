@@ -13,14 +13,15 @@ use Rattle.bytecode.specs.State.{type_byte, encode, state_length}
 use Rattle.load_places.specs.Records.{code_place}
 use Rattle.machine_frames.specs.Bytes.{went_to, pushed, popped, conditioned}
 use Rattle.machine_frames.specs.On.{on-long, read_count, read-records}
-use Rattle.machine_ops.specs.declared.operators.Worked.{Worked}
-use Rattle.machine_ops.specs.declared.operators.Worked.TheVariants as worked
-use Rattle.machine_ops.specs.Works.{Works2}
+use Rattle.std.specs.Prelude.{Ok, Err}
+use Rattle.values.specs.Answers.{number_of}
+use Rattle.values.specs.declared.conditions.Condition.{Condition}
+use Rattle.machine_ops.specs.declared.operators.Typed.{Typed}
+use Rattle.machine_ops.specs.Works.{Worked, Works2}
 use Rattle.machine_ops.proofs.RunningFacts.{few-records}
 use Rattle.machine_run.specs.declared.aside.Landing.{Landing}
-use Rattle.machine_run.specs.declared.aside.Landing.TheVariants as landing
 use Rattle.machine_run.specs.Held.{Poised, Reaches}
-use Rattle.machine_run.specs.Aside.{Coded, Aside, One, Leads, Led, Lands, Follows, Paired, operates, pushes, loads, Leaves, Grows, stores, jumps, passes, puts}
+use Rattle.machine_run.specs.Aside.{Coded, Aside, One, Leads, Led, Lands, Follows, Paired, operates, pushes, loads, Leaves, Grows, landed, stores, jumps, passes, puts}
 use Rattle.machine_run.proofs.OpAsks.{asks-load, asks-store, asks-operate, asks-unless}
 use Rattle.machine_run.proofs.AsideSteps.{whole, one-whole, now-whole, room_whole, in_code, poised-whole, take, gave, broke, Back, put-bytes, put_back}
 use Rattle.machine_run.proofs.AsideSteps as steps
@@ -45,7 +46,7 @@ recount {code} {readings} {k} {s} {at₀} {i₀} {l₀} {l} {f} {d} {i} {w = w} 
 
 -- the operand is put back
 pub put : {code readings : List ℕ} {k : ℕ} {s : List ℕ} {at₀ i₀ : ℕ} {l₀ l : List ℕ} {f d i n w t : ℕ} → Going code readings k s at₀ i₀ l₀ l f d i n w t
-    → Lands code readings k f s i₀ (went_to (pushed l f d w t) f i) (landing.Lands i n)
+    → Lands code readings k f s i₀ (went_to (pushed l f d w t) f i) (Ok (landed i n))
 put {code} {readings} {k} {s} {i₀ = i₀} {n = n} G =
     let B = put_back G.one in (
       record { held = B.held; upto = G.upto; leads = subst (λ (z : List ℕ). Leads code readings k s i₀ z n) (sym (put-bytes G.one)) G.leads },
@@ -76,10 +77,10 @@ pub record Two (code readings : List ℕ) (k : ℕ) (s : List ℕ) (i₀ : ℕ) 
 
 module _ {code readings : List ℕ} {k : ℕ} {s : List ℕ} {i₀ : ℕ} {l₀ l : List ℕ} {f d i n c u x y : ℕ} (low : Bytes readings) (T : Two code readings k s i₀ l₀ l f d i n c u x y) (r : Worked)
     (W : Works2 c u x y r) where
-  pub gives : (at₀ w t : ℕ) → r ≡ worked.Gives w t → Going code readings k s at₀ i₀ l₀ l f d i n w t
-  gives at₀ w t e =
-      let g = gave T.aside readings low T.op-is T.number refl refl T.binary T.left-type T.left_word T.right-word r W w t e in
-      let G : Going code readings k s at₀ i₀ l₀ l f d (T.spot + 1) (T.taken + 1) w t =
+  pub gives : (at₀ : ℕ) (v : Typed) → r ≡ Ok v → Going code readings k s at₀ i₀ l₀ l f d i n v.word v.ty
+  gives at₀ v e =
+      let g = gave T.aside readings low T.op-is T.number refl refl T.binary T.left-type T.left_word T.right-word r W v e in
+      let G : Going code readings k s at₀ i₀ l₀ l f d (T.spot + 1) (T.taken + 1) v.word v.ty =
       record {
         upto = omega (arith, T.more);
         grown = omega (arith, T.grown);
@@ -88,14 +89,14 @@ module _ {code readings : List ℕ} {k : ℕ} {s : List ℕ} {i₀ : ℕ} {l₀ 
         one = g.0;
         leads = λ b R. g.1 k T.taken T.more b (T.leads b R);
       } in
-      subst (λ (z : ℕ). Going code readings k s at₀ i₀ l₀ l f d i z w t) T.so_far (subst (λ (z : ℕ). Going code readings k s at₀ i₀ l₀ l f d z (T.taken + 1) w t) T.at-spot G)
+      subst (λ (z : ℕ). Going code readings k s at₀ i₀ l₀ l f d i z v.word v.ty) T.so_far (subst (λ (z : ℕ). Going code readings k s at₀ i₀ l₀ l f d z (T.taken + 1) v.word v.ty) T.at-spot G)
 
-  pub breaks : (e : ℕ) → r ≡ worked.Ends e → Led code readings k s i₀ (conditioned l e) n × (byte_at (conditioned l e) 0 ≡ 1)
+  pub breaks : (e : Condition) → r ≡ Err e → Led code readings k s i₀ (conditioned l (number_of e)) n × (byte_at (conditioned l (number_of e)) 0 ≡ 1)
   breaks e q =
-      let g = broke T.aside readings low T.op-is T.number refl refl T.binary T.left-type T.left_word T.right-word r W e q in
-      let L : Led code readings k s i₀ (conditioned l e) (T.taken + 1) =
+      let g = broke T.aside readings low T.op-is T.number refl refl T.binary T.left-type T.left_word T.right-word r W e q (number_of e) refl in
+      let L : Led code readings k s i₀ (conditioned l (number_of e)) (T.taken + 1) =
       record { held = g.0; upto = omega (arith, T.more); leads = λ b R. g.2 k T.taken T.more b (T.leads b R) } in
-      (subst (λ (z : ℕ). Led code readings k s i₀ (conditioned l e) z) T.so_far L, g.1)
+      (subst (λ (z : ℕ). Led code readings k s i₀ (conditioned l (number_of e)) z) T.so_far L, g.1)
 
   pub break-room : (length l ≡ state_length) × (byte_at l 2 ≤ 32) × (half_at l 4 ≤ 256)
   break-room =
@@ -253,29 +254,29 @@ module _ {code readings : List ℕ} {k : ℕ} {s : List ℕ} {at₀ i₀ : ℕ} 
     λ e. (asks-unless P e).1,
   )
 
-  lands-at : {l' : List ℕ} {at' : ℕ} → Back code l' f at' × ((k j : ℕ) → j < k → Leads code readings k (encode (whole A)) j l' (j + 1)) → Lands code readings k f s i₀ l' (landing.Lands at' (n + 1))
+  lands-at : {l' : List ℕ} {at' : ℕ} → Back code l' f at' × ((k j : ℕ) → j < k → Leads code readings k (encode (whole A)) j l' (j + 1)) → Lands code readings k f s i₀ l' (Ok (landed at' (n + 1)))
   lands-at B =
       (record { held = B.0.held; upto = omega (arith, R.more); leads = λ z Q. B.1 k n R.more z (R.going.leads z Q) }, B.0.runs, B.0.place, B.0.address)
 
-  pub left : {l' : List ℕ} {r : Landing} → Leaves l f d i n op a b w t l' r → Lands code readings k f s i₀ l' r
+  pub left : {l' : List ℕ} {r : Landing} → Leaves l f d i n op a b w t l' r → Lands code readings k f s i₀ l' (Ok r)
   left {l'} (stores e g p q el er) =
-      subst (λ (z : Landing). Lands code readings k f s i₀ l' z) (sym er)
-      (subst (λ (z : List ℕ). Lands code readings k f s i₀ z (landing.Lands (i + 1) (n + 1))) (sym el) (lands-at (steps.stores O readings R.low eo ea eb e (asks-store P e).1 g p q)))
+      subst (λ (z : Landing). Lands code readings k f s i₀ l' (Ok z)) (sym er)
+      (subst (λ (z : List ℕ). Lands code readings k f s i₀ z (Ok (landed (i + 1) (n + 1)))) (sym el) (lands-at (steps.stores O readings R.low eo ea eb e (asks-store P e).1 g p q)))
   left {l'} (jumps e z el er) =
-      subst (λ (z : Landing). Lands code readings k f s i₀ l' z) (sym er)
-      (subst (λ (z : List ℕ). Lands code readings k f s i₀ z (landing.Lands b (n + 1))) (sym el) (lands-at (steps.jumps O readings R.low eo ea eb e z)))
+      subst (λ (z : Landing). Lands code readings k f s i₀ l' (Ok z)) (sym er)
+      (subst (λ (z : List ℕ). Lands code readings k f s i₀ z (Ok (landed b (n + 1)))) (sym el) (lands-at (steps.jumps O readings R.low eo ea eb e z)))
   left {l'} (passes e z el er) =
-      subst (λ (z : Landing). Lands code readings k f s i₀ l' z) (sym er)
-      (subst (λ (z : List ℕ). Lands code readings k f s i₀ z (landing.Lands (i + 1) (n + 1))) (sym el) (lands-at (steps.passes O readings R.low eo ea eb e z)))
+      subst (λ (z : Landing). Lands code readings k f s i₀ l' (Ok z)) (sym er)
+      (subst (λ (z : List ℕ). Lands code readings k f s i₀ z (Ok (landed (i + 1) (n + 1)))) (sym el) (lands-at (steps.passes O readings R.low eo ea eb e z)))
   left {l'} (puts el er) =
-      subst (λ (z : Landing). Lands code readings k f s i₀ l' z) (sym er) (subst (λ (z : List ℕ). Lands code readings k f s i₀ z (landing.Lands i n)) (sym el) (put R.going))
+      subst (λ (z : Landing). Lands code readings k f s i₀ l' (Ok z)) (sym er) (subst (λ (z : List ℕ). Lands code readings k f s i₀ z (Ok (landed i n))) (sym el) (put R.going))
 
   -- steps were taken, or the first instruction is at hand still
-  pub left-grows : {l' : List ℕ} {r : Landing} → (op ≡ 7 → 20 ≤ a) → Leaves l f d i n op a b w t l' r → Grows code (base + 8 * at₀) i₀ k r
-  left-grows high (stores e g p q el er) = subst (Grows code (base + 8 * at₀) i₀ k) (sym er) (omega (arith, R.going.grown), λ x y z. omega (arith, R.going.grown))
-  left-grows high (jumps e z el er) = subst (Grows code (base + 8 * at₀) i₀ k) (sym er) (omega (arith, R.going.grown), λ x y z. omega (arith, R.going.grown))
-  left-grows high (passes e z el er) = subst (Grows code (base + 8 * at₀) i₀ k) (sym er) (omega (arith, R.going.grown), λ x y z. omega (arith, R.going.grown))
-  left-grows high (puts el er) = subst (Grows code (base + 8 * at₀) i₀ k) (sym er) (R.going.grown, λ x y z. later x y)
+  pub left-grows : {l' : List ℕ} {r : Landing} → (op ≡ 7 → 20 ≤ a) → Leaves l f d i n op a b w t l' r → Grows code (base + 8 * at₀) i₀ k (Ok r)
+  left-grows high (stores e g p q el er) = subst (λ (z : Landing). Grows code (base + 8 * at₀) i₀ k (Ok z)) (sym er) (omega (arith, R.going.grown), λ x y z. omega (arith, R.going.grown))
+  left-grows high (jumps e z el er) = subst (λ (z : Landing). Grows code (base + 8 * at₀) i₀ k (Ok z)) (sym er) (omega (arith, R.going.grown), λ x y z. omega (arith, R.going.grown))
+  left-grows high (passes e z el er) = subst (λ (z : Landing). Grows code (base + 8 * at₀) i₀ k (Ok z)) (sym er) (omega (arith, R.going.grown), λ x y z. omega (arith, R.going.grown))
+  left-grows high (puts el er) = subst (λ (z : Landing). Grows code (base + 8 * at₀) i₀ k (Ok z)) (sym er) (R.going.grown, λ x y z. later x y)
     where
       same_place : n ≡ i₀ → base + 8 * at₀ ≡ base + 8 * i
       same_place e = let q = R.going.fresh e in omega arith
@@ -289,7 +290,7 @@ module _ {code readings : List ℕ} {k : ℕ} {s : List ℕ} {at₀ i₀ : ℕ} 
           omega (arith, not, R.going.grown)
 
 pub put-grows : {code readings : List ℕ} {k : ℕ} {s : List ℕ} {at₀ i₀ : ℕ} {l₀ l : List ℕ} {f d i n w t : ℕ} (p : ℕ)
-    → Going code readings k s at₀ i₀ l₀ l f d i n w t → k ≤ n → Grows code p i₀ k (landing.Lands i n)
+    → Going code readings k s at₀ i₀ l₀ l f d i n w t → k ≤ n → Grows code p i₀ k (Ok (landed i n))
 put-grows p G h = (G.grown, λ x y z. omega arith)
 
 pub put-asks : {code readings : List ℕ} {k : ℕ} {s : List ℕ} {at₀ i₀ : ℕ} {l₀ l : List ℕ} {f d i n w t : ℕ}

@@ -40,10 +40,12 @@ use Rattle.bytecode_layout.specs.Steps.{activation}
 use Rattle.load_places.specs.Records.{count, code_place}
 use Rattle.machine_frames.specs.Bytes.{went_to, pushed, popped, cell_set, conditioned}
 use Rattle.machine_frames.specs.On.{On, read_count, read-depth, read-address, read-operand, read-cell, read-root, read-releasing, on_go, on-push, on-pop, on-cell, on-root, on-condition}
-use Rattle.machine_ops.specs.declared.operators.Worked.{Worked}
-use Rattle.machine_ops.specs.declared.operators.Worked.TheVariants as worked
+use Rattle.std.specs.Prelude.{Ok, Err}
+use Rattle.values.specs.Answers.{number_of}
+use Rattle.values.specs.declared.conditions.Condition.{Condition}
+use Rattle.machine_ops.specs.declared.operators.Typed.{Typed}
 use Rattle.machine_ops.specs.declared.Out.TheVariants.{Goes}
-use Rattle.machine_ops.specs.Works.{Says, Works2}
+use Rattle.machine_ops.specs.Works.{Worked, typed, Says, Works2}
 use Rattle.machine_ops.specs.Acts.{here, out_of, Now, Told, Room}
 use Rattle.machine_ops.proofs.RunningFacts.{stands, few-records, value-back, word-valid, owner-is}
 use Rattle.machine_run.specs.Held.{Held, Poised, Steps}
@@ -91,13 +93,15 @@ module _ {is : List Item} {s : Machine} where
 
 -- what an operator makes of two operands
 data Settles (r : Worked) (us : List Value) (h : Here) (is : List Item) (s : Machine) : Type 0 where
-  makes : (v : Value) → r ≡ worked.Gives (value_word v) (type_byte v) → is ≡ [] → s ≡ running h.shared (at (suc h.top.address) (v ∷ us) h.top) h.below → Settles r us h is s
-  breaks : (c : ℕ) → r ≡ worked.Ends c → is ≡ [] → s ≡ unwinding (all_holds (h.top ∷ h.below)) (end_by c) → Settles r us h is s
+  makes : (v : Value) → r ≡ Ok (typed (value_word v) (type_byte v)) → is ≡ [] → s ≡ running h.shared (at (suc h.top.address) (v ∷ us) h.top) h.below → Settles r us h is s
+  breaks : (c : Condition) → r ≡ Err c → is ≡ [] → s ≡ unwinding (all_holds (h.top ∷ h.below)) (end_by (number_of c)) → Settles r us h is s
 
 settles : {is : List Item} {s : Machine} (x : Outcome Value) (r : Worked) (us : List Value) (h : Here) → Says x r → settled x us h ≡ moved is s → Settles r us h is s
 unfolding condition
 settles (gives v) r us h q e = let g = goes-is _ h e in makes v q g.0 g.1
-settles (ends c) r us h q e = let g = moved-is e in breaks c q g.0 g.1
+settles (ends c) r us h q e =
+    let g = moved-is e in
+    breaks q.condition q.is g.0 (g.1 ∙ ap (λ (z : ℕ). unwinding (all_holds (h.top ∷ h.below)) (end_by z)) q.number)
 settles mistyped r us h q e = not_stuck e
 
 binary-of : (a : ℕ) (o : Operator) → a < 20 → operator_of a ≡ some o → (q : Binary) × (binary_of a ≡ some q) × (o ≡ binary q)
@@ -301,19 +305,20 @@ module _ {code l : List ℕ} {f n i : ℕ} {x y : Value} (A : Aside code l f n i
       let s = says z.0 z.1 in
       settles (apply2 z.0 x y) r A.top.operands (here A.shared (full A) A.below) s d
 
-  pub gave : (w t : ℕ) → r ≡ worked.Gives w t → (O : One code l f n (i + 1) w t) × ((k j : ℕ) → j < k → Leads code readings k (encode (whole A)) j (encode (whole O.aside)) (j + 1))
-  gave w t er = by came
+  pub gave : (w : Typed) → r ≡ Ok w → (O : One code l f n (i + 1) w.word w.ty) × ((k j : ℕ) → j < k → Leads code readings k (encode (whole A)) j (encode (whole O.aside)) (j + 1))
+  gave w er = by came
     where
       by : Settles r A.top.operands (here A.shared (full A) A.below) M.items M.next
-          → (O : One code l f n (i + 1) w t) × ((k j : ℕ) → j < k → Leads code readings k (encode (whole A)) j (encode (whole O.aside)) (j + 1))
+          → (O : One code l f n (i + 1) w.word w.ty) × ((k j : ℕ) → j < k → Leads code readings k (encode (whole A)) j (encode (whole O.aside)) (j + 1))
       by (breaks c e _ _) = let z : ◌≡◌ {A = ℕ} 0 1 = cc in absurd (omega arith)
       by (makes v e ei en) =
+          let q : w ≡ typed (value_word v) (type_byte v) = cc in
           let s' : Machine = running A.shared (at (i + 1) (v ∷ A.top.operands) A.top) A.below in
           let e' : M.next ≡ s' = en ∙ ap (λ (j : ℕ). running A.shared (at j (v ∷ A.top.operands) A.top) A.below) (sym (add-one i)) in (
             record {
               value = v;
-              word = cc;
-              type = cc;
+              word = ap (λ (z : Typed). z.word) q;
+              type = ap (λ (z : Typed). z.ty) q;
               aside = record {
                 macro = A.macro;
                 reads = A.reads;
@@ -329,17 +334,18 @@ module _ {code l : List ℕ} {f n i : ℕ} {x y : Value} (A : Aside code l f n i
             lead A readings low eo ea eb s' e' (ap (λ (c : List Item). out_of c s') (sym ei)),
           )
 
-  pub broke : (c : ℕ) → r ≡ worked.Ends c
+  pub broke : (e : Condition) → r ≡ Err e → (c : ℕ) → c ≡ number_of e
       → Held code (conditioned l c) × (byte_at (conditioned l c) 0 ≡ 1) × ((k j : ℕ) → j < k → Leads code readings k (encode (whole A)) j (conditioned l c) (j + 1))
   unfolding all_holds
-  broke c er = by came
+  broke e er c ec = by came
     where
       by : Settles r A.top.operands (here A.shared (full A) A.below) M.items M.next
           → Held code (conditioned l c) × (byte_at (conditioned l c) 0 ≡ 1) × ((k j : ℕ) → j < k → Leads code readings k (encode (whole A)) j (conditioned l c) (j + 1))
-      by (makes v e _ _) = let z : ◌≡◌ {A = ℕ} 0 1 = cc in absurd (omega arith)
-      by (breaks d e ei en) =
+      by (makes v ev _ _) = let z : ◌≡◌ {A = ℕ} 0 1 = cc in absurd (omega arith)
+      by (breaks d ed ei en) =
           let s' : Machine = unwinding (all_holds (A.top ∷ A.below)) (end_by c) in
-          let dc : d ≡ c = cc in
+          let de : d ≡ e = cc in
+          let dc : number_of d ≡ c = ap number_of de ∙ sym ec in
           let e' : M.next ≡ s' = en ∙ ap (λ (z : ℕ). unwinding (all_holds (A.top ∷ A.below)) (end_by z)) dc in
           let cs : conditioned l c ≡ encode s' = on-condition A.on (few-records (now-whole A)) c in (
             record { macro = A.macro; reads = A.reads; passed = A.passed; state = s'; sounds = still A readings low eo ea eb s' e'; bytes = cs },

@@ -1,5 +1,6 @@
 -- Steps with operands aside: the bytes hold a state without them, at an address that was left behind.
 use Rattle.std.specs.Prelude.{◌≡◌, true, List, [], ◌∷◌, ◌++◌, ℕ, ◌+◌, ◌*◌, ◌-◌, ◌≤◌, ◌<◌, length}
+use Rattle.std.specs.Prelude.{Option, Some, None, Result, Ok, Err}
 use Rattle.words.specs.Numbers.{byte_at, half_at, word_at}
 use Rattle.values.specs.Ends.{accepted}
 use Rattle.values.specs.Values.{Value}
@@ -13,11 +14,8 @@ use Rattle.load_places.specs.Records.{count, code_base}
 use Rattle.machine_frames.specs.Bytes.{went_to, pushed, popped, cell_set}
 use Rattle.machine_frames.specs.On.{On}
 use Rattle.machine_run.specs.declared.aside.Begun.{Begun}
-use Rattle.machine_run.specs.declared.aside.Begun.TheVariants as begun
 use Rattle.machine_run.specs.declared.aside.Pair.{Pair}
-use Rattle.machine_run.specs.declared.aside.Pair.TheVariants as pair
 use Rattle.machine_run.specs.declared.aside.Landing.{Landing}
-use Rattle.machine_run.specs.declared.aside.Landing.TheVariants as landing
 use Rattle.machine_run.specs.Held.{Held, Since, Reaches}
 
 -- where the instructions stand
@@ -69,9 +67,9 @@ pub data Begin (l : List ℕ) (f n op a b : ℕ) (l' : List ℕ) (w t k s : ℕ)
   pushes : op ≡ 1 → w ≡ b → t ≡ 1 → l' ≡ l → k ≡ n → s ≡ 1 → Begin l f n op a b l' w t k s
   takes : op ≡ 7 → a < 20 → Takes l f n l' w t k → s ≡ 0 → Begin l f n op a b l' w t k s
 
-abbrev pub Begins : List ℕ → ℕ → ℕ → ℕ → ℕ → ℕ → List ℕ → Begun → Type 0
-Begins l f n op a b l' (begun.Value w t k s) = Begin l f n op a b l' w t k s
-Begins l f n op a b l' begun.Other = (l' ≡ l) × (op ≡ 7 → 20 ≤ a)
+abbrev pub Begins : List ℕ → ℕ → ℕ → ℕ → ℕ → ℕ → List ℕ → Option Begun → Type 0
+Begins l f n op a b l' (Some v) = Begin l f n op a b l' v.word v.ty v.depth v.steps
+Begins l f n op a b l' None = (l' ≡ l) × (op ≡ 7 → 20 ≤ a)
 
 -- the next operator, number c, is behind the instruction at p
 pub record Follows (code : List ℕ) (p room c : ℕ) : Type 0 where
@@ -85,15 +83,18 @@ pub data Paired (code : List ℕ) (p : ℕ) (l : List ℕ) (f n op a b w t room 
   pushes : op ≡ 1 → Follows code p room c → l' ≡ l → u ≡ t → x ≡ w → y ≡ b → k ≡ n → s ≡ 2 → Paired code p l f n op a b w t room l' c u x y k s
   loads : op ≡ 5 → Follows code p room c → Cells l f a b y → l' ≡ l → u ≡ t → x ≡ w → k ≡ n → s ≡ 2 → Paired code p l f n op a b w t room l' c u x y k s
 
-abbrev pub Pairs : List ℕ → ℕ → List ℕ → ℕ → ℕ → ℕ → ℕ → ℕ → ℕ → ℕ → ℕ → List ℕ → Pair → Type 0
-Pairs code p l f n op a b w t room l' (pair.Works c u x y k s) = Paired code p l f n op a b w t room l' c u x y k s
-Pairs code p l f n op a b w t room l' pair.Other = (l' ≡ l) × (op ≡ 7 → 20 ≤ a)
+abbrev pub Pairs : List ℕ → ℕ → List ℕ → ℕ → ℕ → ℕ → ℕ → ℕ → ℕ → ℕ → ℕ → List ℕ → Option Pair → Type 0
+Pairs code p l f n op a b w t room l' (Some v) = Paired code p l f n op a b w t room l' v.operator v.ty v.left v.right v.depth v.steps
+Pairs code p l f n op a b w t room l' None = (l' ≡ l) × (op ≡ 7 → 20 ≤ a)
+
+abbrev pub landed : ℕ → ℕ → Landing
+landed i j = record { address = i; taken = j }
 
 pub data Leaves (l : List ℕ) (f n i j op a b w t : ℕ) (l' : List ℕ) (r : Landing) : Type 0 where
-  stores : op ≡ 6 → (g : ℕ) → (a ≡ 0 → g ≡ f) → (a ≡ 1 → g ≡ 32) → l' ≡ went_to (cell_set l g b w t) f (i + 1) → r ≡ landing.Lands (i + 1) (j + 1) → Leaves l f n i j op a b w t l' r
-  jumps : op ≡ 9 → w ≡ 0 → l' ≡ went_to l f b → r ≡ landing.Lands b (j + 1) → Leaves l f n i j op a b w t l' r
-  passes : op ≡ 9 → (w ≡ 0 → ⊥) → l' ≡ went_to l f (i + 1) → r ≡ landing.Lands (i + 1) (j + 1) → Leaves l f n i j op a b w t l' r
-  puts : l' ≡ went_to (pushed l f n w t) f i → r ≡ landing.Lands i j → Leaves l f n i j op a b w t l' r
+  stores : op ≡ 6 → (g : ℕ) → (a ≡ 0 → g ≡ f) → (a ≡ 1 → g ≡ 32) → l' ≡ went_to (cell_set l g b w t) f (i + 1) → r ≡ landed (i + 1) (j + 1) → Leaves l f n i j op a b w t l' r
+  jumps : op ≡ 9 → w ≡ 0 → l' ≡ went_to l f b → r ≡ landed b (j + 1) → Leaves l f n i j op a b w t l' r
+  passes : op ≡ 9 → (w ≡ 0 → ⊥) → l' ≡ went_to l f (i + 1) → r ≡ landed (i + 1) (j + 1) → Leaves l f n i j op a b w t l' r
+  puts : l' ≡ went_to (pushed l f n w t) f i → r ≡ landed i j → Leaves l f n i j op a b w t l' r
 
 -- ── where the steps lead ──
 -- from bytes s after i steps to bytes l after j
@@ -102,12 +103,12 @@ pub record Led (code readings : List ℕ) (k : ℕ) (s : List ℕ) (i : ℕ) (l 
   pub upto : j ≤ k
   pub leads : Leads code readings k s i l j
 
-abbrev pub Lands : List ℕ → List ℕ → ℕ → ℕ → List ℕ → ℕ → List ℕ → Landing → Type 0
-Lands code readings k f s i l (landing.Lands at' j) =
-    Led code readings k s i l j × (byte_at l 0 ≡ 0) × (f ≡ activations_at + activation_length * (byte_at l 2 - 1)) × (at' ≡ half_at l (f + 4))
-Lands code readings k f s i l (landing.Breaks j) = Led code readings k s i l j × (byte_at l 0 ≡ 1)
+abbrev pub Lands : List ℕ → List ℕ → ℕ → ℕ → List ℕ → ℕ → List ℕ → Result Landing ℕ → Type 0
+Lands code readings k f s i l (Ok r) =
+    Led code readings k s i l r.taken × (byte_at l 0 ≡ 0) × (f ≡ activations_at + activation_length * (byte_at l 2 - 1)) × (r.address ≡ half_at l (f + 4))
+Lands code readings k f s i l (Err j) = Led code readings k s i l j × (byte_at l 0 ≡ 1)
 
 -- that steps are taken, where the first instruction, at p, is an operator of two operands and may be done
-abbrev pub Grows : List ℕ → ℕ → ℕ → ℕ → Landing → Type 0
-Grows code p i k (landing.Lands at' j) = (i ≤ j) × (byte_at code (p + 2) ≡ 7 → byte_at code (p + 3) < 20 → i < k → i < j)
-Grows code p i k (landing.Breaks j) = Unit {0}
+abbrev pub Grows : List ℕ → ℕ → ℕ → ℕ → Result Landing ℕ → Type 0
+Grows code p i k (Ok r) = (i ≤ r.taken) × (byte_at code (p + 2) ≡ 7 → byte_at code (p + 3) < 20 → i < k → i < r.taken)
+Grows code p i k (Err j) = Unit {0}

@@ -5,12 +5,10 @@ ghost use Rattle.std.specs.Prelude.{◌≡◌, ◌+◌, ◌*◌, ◌≤◌, ◌<
 ghost use Rattle.words.specs.Numbers.{byte_at};
 ghost use Rattle.bytecode.specs.State.{state_length};
 ghost use Rattle.machine_frames.specs.Bytes.{went_to, pushed};
-ghost use Rattle.machine_run.specs.Aside.{Coded, One, Begins, Pairs, Leaves, Lands, Grows};
-ghost use Rattle.machine_run.specs.declared.aside.Landing.TheVariants.{Lands as lands};
+ghost use Rattle.machine_run.specs.Aside.{Coded, One, Begins, Pairs, Leaves, Lands, Grows, landed};
 
 use formats::compiled::*;
 use formats::state::*;
-use machine_ops::Worked;
 
 // The operators of two operands have the numbers below this.
 const UNARY: u8 = 20;
@@ -19,29 +17,35 @@ const NEXT_OP_AT: usize = CODE_BYTES + CODE_OP_AT;
 
 const NEXT_A_AT: usize = CODE_BYTES + CODE_A_AT;
 
-// The bytes hold all again, and go on at an address; or a condition broke off. With the steps taken.
-#[derive(Drop)]
-pub enum Landing {
-    Lands(u16, u16),
-    Breaks(u16),
+// The bytes hold all again, and go on at an address; with the steps taken.
+#[derive(Clone, Copy)]
+pub struct Landing {
+    pub address: u16,
+    pub taken: u16,
 }
 
 // An operand to set aside, the number of those below it and the steps taken by that.
-#[derive(Drop)]
-pub enum Begun {
-    Value(u32, u8, usize, u16),
-    Other,
+#[derive(Clone, Copy)]
+pub struct Begun {
+    pub word: u32,
+    pub ty: u8,
+    pub depth: usize,
+    pub steps: u16,
 }
 
 // An operator on two operands that are both aside, the left one with its type byte; the number of those below, and the steps taken by the operator and all before it.
-#[derive(Drop)]
-pub enum Pair {
-    Works(u8, u8, u32, u32, usize, u16),
-    Other,
+#[derive(Clone, Copy)]
+struct Pair {
+    operator: u8,
+    ty: u8,
+    left: u32,
+    right: u32,
+    depth: usize,
+    steps: u16,
 }
 
 // What a load or a push gives, or the right operand of an operator, which is yet to be done.
-pub fn begin(state: &mut [u8], frame: usize, depth: usize, op: u8, a: u8, b: u32) -> Begun
+pub fn begin(state: &mut [u8], frame: usize, depth: usize, op: u8, a: u8, b: u32) -> Option<Begun>
     requires { (length state.old ≡ state_length) × (frame ≤ 10200) × (depth ≤ 32) × (op ≡ 5 → b < 32) × (op ≡ 7 → 0 < depth) }
     ensures { Begins state.old frame depth op a b state.new result }
 {
@@ -50,20 +54,35 @@ pub fn begin(state: &mut [u8], frame: usize, depth: usize, op: u8, a: u8, b: u32
             let g = machine_ops::owner(frame, a);
             let w = machine_frames::cell_word(state, g, b as usize);
             let t = machine_frames::cell_type(state, g, b as usize);
-            Begun::Value(w, t, depth, 1)
+            Some(Begun {
+                word: w,
+                ty: t,
+                depth,
+                steps: 1,
+            })
         }
-        OP_INTEGER => Begun::Value(b, TYPE_INTEGER, depth, 1),
+        OP_INTEGER => Some(Begun {
+            word: b,
+            ty: TYPE_INTEGER,
+            depth,
+            steps: 1,
+        }),
         OP_OPERATOR => {
             if UNARY <= a {
-                return Begun::Other;
+                return None;
             }
             let k = depth - 1;
             let w = machine_frames::operand_word(state, frame, k);
             let t = machine_frames::operand_type(state, frame, k);
             machine_frames::pop(state, frame, k);
-            Begun::Value(w, t, k, 0)
+            Some(Begun {
+                word: w,
+                ty: t,
+                depth: k,
+                steps: 0,
+            })
         }
-        _ => Begun::Other,
+        _ => None,
     }
 }
 
@@ -94,7 +113,7 @@ fn pair_up(
     w: u32,
     t: u8,
     room: u16,
-) -> Pair
+) -> Option<Pair>
     requires { (length state.old ≡ state_length) × (frame ≤ 10200) × (depth ≤ 32) × (op ≡ 1 → place + 16 ≤ length code.now) × (op ≡ 5 → (place + 16 ≤ length code.now) × (b < 32))
         × (op ≡ 7 → a < 20 → 0 < depth) }
     ensures { Pairs code.now place state.old frame depth op a b w t room state.new result }
@@ -102,29 +121,50 @@ fn pair_up(
     match op {
         OP_OPERATOR => {
             if UNARY <= a {
-                return Pair::Other;
+                return None;
             }
             let k = depth - 1;
             let x = machine_frames::operand_word(state, frame, k);
             let u = machine_frames::operand_type(state, frame, k);
             machine_frames::pop(state, frame, k);
-            Pair::Works(a, u, x, w, k, 1)
+            Some(Pair {
+                operator: a,
+                ty: u,
+                left: x,
+                right: w,
+                depth: k,
+                steps: 1,
+            })
         }
         OP_INTEGER => {
             if follows(code, place, room) {
-                return Pair::Works(code[place + NEXT_A_AT], t, w, b, depth, 2);
+                return Some(Pair {
+                    operator: code[place + NEXT_A_AT],
+                    ty: t,
+                    left: w,
+                    right: b,
+                    depth,
+                    steps: 2,
+                });
             }
-            Pair::Other
+            None
         }
         OP_LOAD => {
             if follows(code, place, room) {
                 let g = machine_ops::owner(frame, a);
                 let y = machine_frames::cell_word(state, g, b as usize);
-                return Pair::Works(code[place + NEXT_A_AT], t, w, y, depth, 2);
+                return Some(Pair {
+                    operator: code[place + NEXT_A_AT],
+                    ty: t,
+                    left: w,
+                    right: y,
+                    depth,
+                    steps: 2,
+                });
             }
-            Pair::Other
+            None
         }
-        _ => Pair::Other,
+        _ => None,
     }
 }
 
@@ -139,11 +179,11 @@ fn put_back(
     t: u8,
 ) -> Landing
     requires { (length state.old ≡ state_length) × (frame ≤ 10200) × (depth < 32) }
-    ensures { (state.new ≡ went_to (pushed state.old frame depth w t) frame address) × (result ≡ lands address taken) }
+    ensures { (state.new ≡ went_to (pushed state.old frame depth w t) frame address) × (result ≡ landed address taken) }
 {
     machine_frames::push(state, frame, depth, w, t);
     machine_frames::go_to(state, frame, address);
-    Landing::Lands(address, taken)
+    Landing { address, taken }
 }
 
 // A store or a jump takes it; before any other op it is put back.
@@ -167,20 +207,30 @@ fn leave(
             let g = machine_ops::owner(frame, a);
             machine_frames::put_cell(state, g, b as usize, w, t);
             machine_frames::go_to(state, frame, address + 1);
-            Landing::Lands(address + 1, taken + 1)
+            Landing {
+                address: address + 1,
+                taken: taken + 1,
+            }
         }
         OP_UNLESS => {
             if w == 0 {
                 machine_frames::go_to(state, frame, b as u16);
-                return Landing::Lands(b as u16, taken + 1);
+                return Landing {
+                    address: b as u16,
+                    taken: taken + 1,
+                };
             }
             machine_frames::go_to(state, frame, address + 1);
-            Landing::Lands(address + 1, taken + 1)
+            Landing {
+                address: address + 1,
+                taken: taken + 1,
+            }
         }
         _ => put_back(state, frame, depth, address, taken, w, t),
     }
 }
 
+// To where it lands; or, where a condition broke off, the steps taken.
 pub fn run_aside(
     code: &[u8],
     base: usize,
@@ -193,7 +243,7 @@ pub fn run_aside(
     allowance: u16,
     w: u32,
     t: u8,
-) -> Landing
+) -> Result<Landing, u16>
     requires { (Coded code.now base) × (One code.now state.old frame depth address w t) × (taken ≤ allowance) }
     ensures { (Lands code.now readings.now allowance frame (went_to (pushed state.old frame depth w t) frame address) taken state.new result)
         × (Grows code.now (base + 8 * address) taken allowance result) }
@@ -209,23 +259,23 @@ pub fn run_aside(
         let a = code[p + CODE_A_AT];
         let b = words::word_at(code, p + CODE_B_AT);
         match pair_up(code, p, state, frame, k, op, a, b, x, u, left) {
-            Pair::Works(c, v, l, r, d, s) => match machine_ops::binary(c, v, l, r) {
-                Worked::Gives(y, z) => {
-                    k = d;
-                    x = y;
-                    u = z;
-                    i += s;
-                    left -= s;
+            Some(pair) => match machine_ops::binary(pair.operator, pair.ty, pair.left, pair.right) {
+                Ok(v) => {
+                    k = pair.depth;
+                    x = v.word;
+                    u = v.ty;
+                    i += pair.steps;
+                    left -= pair.steps;
                 }
-                Worked::Ends(e) => {
-                    machine_frames::condition(state, e);
-                    return Landing::Breaks(allowance - left + s);
+                Err(e) => {
+                    machine_frames::condition(state, e.number());
+                    return Err(allowance - left + pair.steps);
                 }
             },
-            Pair::Other => {
-                return leave(state, frame, k, i, allowance - left, op, a, b, x, u);
+            None => {
+                return Ok(leave(state, frame, k, i, allowance - left, op, a, b, x, u));
             }
         }
     }
-    put_back(state, frame, k, i, allowance, x, u)
+    Ok(put_back(state, frame, k, i, allowance, x, u))
 }

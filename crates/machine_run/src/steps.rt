@@ -4,7 +4,7 @@ ghost use Rattle.words.specs.Numbers.{byte_at, half_at};
 ghost use Rattle.machine_run.specs.Held.{Found, Held, Runs, RunsFrom};
 ghost use Rattle.bytecode.specs.State.{activation_length, state_length};
 
-use crate::aside::{Begun, Landing, begin, run_aside};
+use crate::aside::{begin, run_aside};
 use crate::dispatch::dispatch;
 use crate::{Answer, Run};
 use formats::compiled::*;
@@ -78,25 +78,25 @@ fn run_running(
         let a = code[p + CODE_A_AT];
         let b = words::word_at(code, p + CODE_B_AT);
         match begin(state, frame, depth, op, a, b) {
-            Begun::Value(w, t, k, s) => {
+            Some(begun) => {
                 match run_aside(
                     code,
                     base,
                     state,
                     readings,
                     frame,
-                    k,
-                    address + s,
-                    allowance - left + s,
+                    begun.depth,
+                    address + begun.steps,
+                    allowance - left + begun.steps,
                     allowance,
-                    w,
-                    t,
+                    begun.word,
+                    begun.ty,
                 ) {
-                    Landing::Lands(i, n) => {
-                        address = i;
-                        left = allowance - n;
+                    Ok(landing) => {
+                        address = landing.address;
+                        left = allowance - landing.taken;
                     }
-                    Landing::Breaks(n) => {
+                    Err(n) => {
                         let answer = release(code, state, readings, n, allowance);
                         return Run {
                             answer,
@@ -105,7 +105,7 @@ fn run_running(
                     }
                 }
             }
-            Begun::Other => {
+            None => {
                 match dispatch(
                     code, bodies, classes, state, readings, frame, depth, address, op, a, b,
                 ) {

@@ -6,11 +6,11 @@ use mathlib.Core.Path.{◌≡◌, refl, sym, ap, ◌∙◌, subst}
 use mathlib.Core.List.{List}
 use lib.ListN.{length}
 use Rattle.words.specs.Numbers.{byte_at}
-use Rattle.machine_frames.specs.Bytes.{went_to, pushed}
-use Rattle.machine_run.specs.Aside.{Pairs, Paired, Leaves, Lands, Grows}
+use Rattle.machine_frames.specs.Bytes.{went_to, pushed, conditioned}
+use Rattle.machine_run.specs.Aside.{Pairs, Paired, Leaves, Lands, Grows, landed}
+use Rattle.std.specs.Prelude.{Option, Result, Ok, Err}
 use Rattle.machine_run.specs.declared.aside.Pair.{Pair}
 use Rattle.machine_run.specs.declared.aside.Landing.{Landing}
-use Rattle.machine_run.specs.declared.aside.Landing.TheVariants as landing
 use Rattle.machine_run.proofs.AsideLoop.{Going, Ready, Two, start, recount, put, gives, breaks, break-room, stands, pair-asks, paired}
 use Rattle.machine_run.proofs.AsideLoop.{leave-asks, left, left-grows, put-grows, put-asks, two-room, some-steps}
 use Rattle.machine_run.proofs.aside.run_aside.Statement.{statement}
@@ -51,44 +51,44 @@ ready p =
     }
 
 -- ── a pair found ──
-abbrev found_at : tie.In-Works invariant-loop decreases-loop → tie.After-word_at-b invariant-loop decreases-loop
+abbrev found_at : tie.In-Some invariant-loop decreases-loop → tie.After-word_at-b invariant-loop decreases-loop
 found_at p = p.before.before.before.before.before
 
-pairs : (p : tie.In-Works invariant-loop decreases-loop) →
+pairs : (p : tie.In-Some invariant-loop decreases-loop) →
     let q = found_at p in
     let l = (loop-of q).loop-left in
     let s = (start_of (loop-of q)).args in
     let place = s.base + 8 * l.i in
-    let v = p.in-Works in
+    let v = p.in-Some in
     Paired s.code.now place l.state s.frame l.k (byte_at s.code.now (place + 2)) (byte_at s.code.now (place + 3))
     q.word_at-b.result l.x l.u l.left
-    p.before.before.before.pair_up.new.state v.c v.v v.l v.r v.d v.s
+    p.before.before.before.pair_up.new.state v.pair.operator v.pair.ty v.pair.left v.pair.right v.pair.depth v.pair.steps
 pairs p =
     let q = found_at p in
     let l = (loop-of q).loop-left in
     let s = (start_of (loop-of q)).args in
     let place = s.base + 8 * l.i in
     subst
-    (λ (z : Pair). Pairs s.code.now place l.state s.frame l.k (byte_at s.code.now (place + 2)) (byte_at s.code.now (place + 3))
+    (λ (z : Option Pair). Pairs s.code.now place l.state s.frame l.k (byte_at s.code.now (place + 2)) (byte_at s.code.now (place + 3))
     q.word_at-b.result l.x l.u l.left
     p.before.before.before.pair_up.new.state z)
-    p.in-Works.is p.before.before.before.pair_up.ensures
+    p.in-Some.is p.before.before.before.pair_up.ensures
 
-two : (p : tie.In-Works invariant-loop decreases-loop) →
+two : (p : tie.In-Some invariant-loop decreases-loop) →
     let q = found_at p in
     let l = (loop-of q).loop-left in
     let s = (start_of (loop-of q)).args in
-    let v = p.in-Works in
+    let v = p.in-Some in
     Two s.code.now s.readings.now s.allowance (went_to (pushed s.state.now s.frame s.depth s.w s.t) s.frame s.address) s.taken s.state.now
-    p.before.before.before.pair_up.new.state s.frame v.d (l.i + v.s)
-    (s.allowance - l.left + v.s) v.c v.v v.l v.r
+    p.before.before.before.pair_up.new.state s.frame v.pair.depth (l.i + v.pair.steps)
+    (s.allowance - l.left + v.pair.steps) v.pair.operator v.pair.ty v.pair.left v.pair.right
 two p = let l = loop-of (found_at p) in paired (ready (found_at p)) (omega (arith, l.loop-left.invariant.1)) (pairs p)
 
 -- ── no pair found: the bytes are as they were ──
-abbrev left_at : tie.In-Other invariant-loop decreases-loop → tie.After-word_at-b invariant-loop decreases-loop
+abbrev left_at : tie.In-None invariant-loop decreases-loop → tie.After-word_at-b invariant-loop decreases-loop
 left_at p = p.before.before.before.before.before
 
-same : (p : tie.In-Other invariant-loop decreases-loop) →
+same : (p : tie.In-None invariant-loop decreases-loop) →
     let q = left_at p in
     let l = (loop-of q).loop-left in
     let s = (start_of (loop-of q)).args in
@@ -100,10 +100,10 @@ same p =
     let s = (start_of (loop-of q)).args in
     let place = s.base + 8 * l.i in
     subst
-    (λ (z : Pair). Pairs s.code.now place l.state s.frame l.k (byte_at s.code.now (place + 2)) (byte_at s.code.now (place + 3))
+    (λ (z : Option Pair). Pairs s.code.now place l.state s.frame l.k (byte_at s.code.now (place + 2)) (byte_at s.code.now (place + 3))
     q.word_at-b.result l.x l.u l.left
     p.before.before.before.pair_up.new.state z)
-    p.in-Other.is p.before.before.before.pair_up.ensures
+    p.in-None.is p.before.before.before.pair_up.ensures
 
 sub-left : tie.Need-overflow_sub-left invariant-loop decreases-loop
 sub-left c = omega (arith, c.before.before.before.requires.2)
@@ -143,63 +143,66 @@ word-at-requires c κs = omega (arith, stands c.before.before.before.loop-left.i
 pair-up-requires : tie.Need-pair_up-requires invariant-loop decreases-loop
 pair-up-requires c κs = pair-asks (ready c.before)
 
-enum-known-c : tie.Need-enum_known-c invariant-loop decreases-loop
+enum-known-c : tie.Need-enum_known-pair invariant-loop decreases-loop
 enum-known-c c = search rules
 
 binary-requires : tie.Need-binary-requires invariant-loop decreases-loop
 binary-requires c κs = search rules
 
-enum-known-y : tie.Need-enum_known-y invariant-loop decreases-loop
+enum-known-y : tie.Need-enum_known-v invariant-loop decreases-loop
 enum-known-y c = search rules
 
 add-i : tie.Need-overflow_add-i invariant-loop decreases-loop
-add-i c = omega (arith, two-room (two c.before.before))
+add-i c = omega (arith, two-room (two c.before.before.before))
 
-sub-left-2 : tie.Need-overflow_sub-left-in-Gives invariant-loop decreases-loop
+sub-left-2 : tie.Need-overflow_sub-left-in-Ok invariant-loop decreases-loop
 sub-left-2 c =
-    let p = c.before.before in
+    let p = c.before.before.before.before in
     omega (arith, two-room (two p), (loop-of (found_at p)).loop-left.invariant.1)
 
 loop-less : tie.Need-loop-left-smaller invariant-loop decreases-loop
-loop-less c = omega (arith, some-steps (pairs c.before.before), sub-left-2 c)
+loop-less c = omega (arith, some-steps (pairs c.before.before.before.before), sub-left-2 c)
 
 loop-again : tie.Need-loop-left-preserved invariant-loop decreases-loop
 loop-again c =
-    let p = c.before.before in
+    let p = c.before.before.before.before in
     let few = (loop-of (found_at p)).loop-left.invariant.1 in (
-      recount (omega (arith, sub-left-2 c, few)) (gives (ready (found_at p)).low (two p) _ c.before.binary.ensures _ _ _ c.in-Gives.is),
+      recount (omega (arith, sub-left-2 c, few)) (gives (ready (found_at p)).low (two p) _ c.binary.ensures _ _ c.in-Ok.is),
       omega (arith, few),
     )
 
 enum-known-e : tie.Need-enum_known-e invariant-loop decreases-loop
 enum-known-e c = search rules
 
+number-requires : tie.Need-number-requires invariant-loop decreases-loop
+number-requires c κs = search rules
+
 condition-requires : tie.Need-condition-requires invariant-loop decreases-loop
-condition-requires c κs = let p = c.before.before.before in break-room (ready (found_at p)).low (two p) _ c.before.before.binary.ensures
+condition-requires c κs = let p = c.before.before.before.before in break-room (ready (found_at p)).low (two p) _ c.binary.ensures
 
 sub-t43 : tie.Need-overflow_sub-result invariant-loop decreases-loop
-sub-t43 c = (loop-of (found_at c.before.before.before.before.before.before)).loop-left.invariant.1
+sub-t43 c = (loop-of (found_at c.before.before.before.before.before.before.before)).loop-left.invariant.1
 
 add-t44 : tie.Need-overflow_add-result invariant-loop decreases-loop
 add-t44 c =
-    let p = c.before.before.before.before.before.before in
+    let p = c.before.before.before.before.before.before.before.before in
     let at-start = p.before.before.before.before.before.before.before.before.before.before.before.before.before in
     omega (arith, two-room (two p), at-start.ranges.allowance.fits)
 
-same_length : tie.Need-shape_of-state-in-Ends invariant-loop decreases-loop
-same_length c = c.before.before.condition.auto.state ∙ (two c.before.before.before.before.before.before).long
+same_length : tie.Need-shape_of-state-in-Err invariant-loop decreases-loop
+same_length c = c.condition.auto.state ∙ (two c.before.before.before.before.before.before.before.before).long
 
-returns : tie.Need-returns-in-Ends invariant-loop decreases-loop
+returns : tie.Need-returns-in-Err invariant-loop decreases-loop
 returns c =
-    let p = c.before.before.before.before.before.before in
+    let p = c.before.before.before.before.before.before.before.before in
     let q = found_at p in
     let s = (start_of (loop-of q)).args in
-    let B = breaks (ready q).low (two p) _ c.before.before.before.before.before.binary.ensures _ c.before.before.before.before.in-Ends.is in (
+    let B = breaks (ready q).low (two p) _ c.binary.ensures _ c.in-Err.is in (
       subst
           (λ (z : List ℕ). Lands s.code.now s.readings.now s.allowance s.frame
           (went_to (pushed s.state.now s.frame s.depth s.w s.t) s.frame s.address) s.taken z
-          (landing.Breaks (s.allowance - (loop-of q).loop-left.left + p.in-Works.s)))
-          (sym c.before.before.condition.ensures) B,
+          (Err (s.allowance - (loop-of q).loop-left.left + p.in-Some.pair.steps)))
+          (sym (c.condition.ensures ∙ ap (λ (z : ℕ). conditioned c.pair_up.new.state z) c.number.ensures)) B,
       tt,
     )
 
@@ -216,12 +219,12 @@ leave-requires c κs =
     let a = leave-asks (ready (left_at p)) (omega (arith, s.ranges.allowance.fits)) in
     (ap length (same p).0 ∙ a.0, a.1, a.2, a.3, a.4, a.5, a.6)
 
-same-length-2 : tie.Need-shape_of-state-in-Other invariant-loop decreases-loop
+same-length-2 : tie.Need-shape_of-state-in-None invariant-loop decreases-loop
 same-length-2 c =
     let p = c.before.before.before.before in
     c.before.before.leave.auto.state ∙ ap length (same p).0 ∙ (loop-of (left_at p)).loop-left.invariant.0.long
 
-returns-2 : tie.Need-returns-in-Other invariant-loop decreases-loop
+returns-2 : tie.Need-returns-in-None invariant-loop decreases-loop
 returns-2 c =
     let p = c.before.before.before.before in
     let q = left_at p in
@@ -246,11 +249,11 @@ returns-3 c =
     let l = c.before.before.before.before.before in
     let s = (start_of l).args in
     let s₀ = went_to (pushed s.state.now s.frame s.depth s.w s.t) s.frame s.address in
-    let r = landing.Lands l.loop-left.i s.allowance in
+    let r : Result Landing ℕ = Ok (landed l.loop-left.i s.allowance) in
     let all = recount {m = s.allowance} (omega arith) l.loop-left.invariant.0 in
     subst
-    (λ (z : Landing). (Lands s.code.now s.readings.now s.allowance s.frame s₀ s.taken c.before.before.put_back.new.state z)
-    × (Grows s.code.now (s.base + 8 * s.address) s.taken s.allowance z))
+    (λ (z : Landing). (Lands s.code.now s.readings.now s.allowance s.frame s₀ s.taken c.before.before.put_back.new.state (Ok z))
+    × (Grows s.code.now (s.base + 8 * s.address) s.taken s.allowance (Ok z)))
     (sym c.before.before.put_back.ensures.1) (
       subst (λ (z : List ℕ). Lands s.code.now s.readings.now s.allowance s.frame s₀ s.taken z r) (sym c.before.before.put_back.ensures.0) (put all),
       put-grows _ all (omega arith),
@@ -282,6 +285,7 @@ run_aside_spec =
     loop-less
     loop-again
     enum-known-e
+    number-requires
     condition-requires
     sub-t43
     add-t44

@@ -14,7 +14,7 @@ use Rattle.machine_run.proofs.RunLoop.{begin, spent}
 use Rattle.machine_run.proofs.LoopInvariant.{Loop, Ready, Acted, ready_of, low-place, in_code, small, poise, still, further, there, left-off, lower, still-long}
 use Rattle.machine_run.specs.declared.aside.Begun.{Begun}
 use Rattle.machine_run.specs.declared.aside.Landing.{Landing}
-use Rattle.machine_run.specs.declared.aside.Landing.TheVariants as landing
+use Rattle.std.specs.Prelude.{Option, Result, Ok}
 use Rattle.machine_run.specs.Aside.{Begin, Begins, Lands, Grows}
 use Rattle.machine_frames.specs.Bytes.{went_to, pushed}
 use Rattle.machine_run.proofs.AsideSteps.{room_whole}
@@ -37,10 +37,10 @@ start_of p = p.before.before.before.before.before.before.before
 abbrev loop-of : tie.After-word_at-b invariant-loop decreases-loop → tie.At-loop-left invariant-loop decreases-loop
 loop-of p = p.before.before.before.before.before.before
 
-abbrev read_of : tie.In-Other invariant-loop decreases-loop → tie.After-word_at-b invariant-loop decreases-loop
+abbrev read_of : tie.In-None invariant-loop decreases-loop → tie.After-word_at-b invariant-loop decreases-loop
 read_of p = p.before.before.before.before.before
 
-abbrev read_set : tie.In-Value invariant-loop decreases-loop → tie.After-word_at-b invariant-loop decreases-loop
+abbrev read_set : tie.In-Some invariant-loop decreases-loop → tie.After-word_at-b invariant-loop decreases-loop
 read_set p = p.before.before.before.before.before
 
 abbrev loop-told : tie.In-Goes invariant-loop decreases-loop → tie.At-loop-left invariant-loop decreases-loop
@@ -58,7 +58,7 @@ ready p =
     p.before.before.before.wide-depth.ensures.0 refl refl p.word_at-b.ensures
 
 -- nothing is set aside: the bytes are as they were
-other : (p : tie.In-Other invariant-loop decreases-loop) →
+other : (p : tie.In-None invariant-loop decreases-loop) →
     let q = read_of p in
     let l = (loop-of q).loop-left in
     let s = (start_of (loop-of q)).args in
@@ -70,11 +70,11 @@ other p =
     let s = (start_of (loop-of q)).args in
     let place = s.base + 8 * l.address in
     subst
-    (λ (z : Begun). Begins l.state l.frame q.before.before.before.wide-depth.result (byte_at s.code.now (place + 2)) (byte_at s.code.now (place + 3)) q.word_at-b.result
+    (λ (z : Option Begun). Begins l.state l.frame q.before.before.before.wide-depth.result (byte_at s.code.now (place + 2)) (byte_at s.code.now (place + 3)) q.word_at-b.result
     p.before.before.before.begin.new.state z)
-    p.in-Other.is p.before.before.before.begin.ensures
+    p.in-None.is p.before.before.before.begin.ensures
 
-ready_on : (p : tie.In-Other invariant-loop decreases-loop) →
+ready_on : (p : tie.In-None invariant-loop decreases-loop) →
     let q = read_of p in
     let l = (loop-of q).loop-left in
     let s = (start_of (loop-of q)).args in
@@ -115,52 +115,52 @@ stands p =
     (omega (arith, found.based, code_of _ found.bodied.well _ (in_code p.loop-left.invariant.0)), small p.loop-left.invariant.0, found.small)
 
 -- ── an operand set aside ──
-value : (p : tie.In-Value invariant-loop decreases-loop) →
+value : (p : tie.In-Some invariant-loop decreases-loop) →
     let q = read_set p in
     let l = (loop-of q).loop-left in
     let s = (start_of (loop-of q)).args in
     let place = s.base + 8 * l.address in
-    let v = p.in-Value in
+    let v = p.in-Some in
     Begin l.state l.frame q.before.before.before.wide-depth.result (byte_at s.code.now (place + 2)) (byte_at s.code.now (place + 3)) q.word_at-b.result
-    p.before.before.before.begin.new.state v.w v.t v.k v.s
+    p.before.before.before.begin.new.state v.begun.word v.begun.ty v.begun.depth v.begun.steps
 value p =
     let q = read_set p in
     let l = (loop-of q).loop-left in
     let s = (start_of (loop-of q)).args in
     let place = s.base + 8 * l.address in
     subst
-    (λ (z : Begun). Begins l.state l.frame q.before.before.before.wide-depth.result (byte_at s.code.now (place + 2)) (byte_at s.code.now (place + 3)) q.word_at-b.result
+    (λ (z : Option Begun). Begins l.state l.frame q.before.before.before.wide-depth.result (byte_at s.code.now (place + 2)) (byte_at s.code.now (place + 3)) q.word_at-b.result
     p.before.before.before.begin.new.state z)
-    p.in-Value.is p.before.before.before.begin.ensures
+    p.in-Some.is p.before.before.before.begin.ensures
 
-more-at : (p : tie.In-Value invariant-loop decreases-loop) → let l = loop-of (read_set p) in (start_of l).args.allowance - l.loop-left.left < (start_of l).args.allowance
+more-at : (p : tie.In-Some invariant-loop decreases-loop) → let l = loop-of (read_set p) in (start_of l).args.allowance - l.loop-left.left < (start_of l).args.allowance
 more-at p = omega (arith, (loop-of (read_set p)).loop-left.invariant.1)
 
-set : (p : tie.In-Value invariant-loop decreases-loop) → let v = p.in-Value in Set (ready (read_set p)) p.before.before.before.begin.new.state v.w v.t v.k v.s
+set : (p : tie.In-Some invariant-loop decreases-loop) → let v = p.in-Some in Set (ready (read_set p)) p.before.before.before.begin.new.state v.begun.word v.begun.ty v.begun.depth v.begun.steps
 set p = begun (ready (read_set p)) (omega (arith, (read_set p).word_at-b.type_inv)) (more-at p) (value p)
 
 -- where the steps with it lead
-leads-to : (p : tie.After-run_aside invariant-loop decreases-loop) (r : Landing) → p.run_aside.result ≡ r →
-    let w = p.before.before in
+leads-to : (p : tie.After-run_aside invariant-loop decreases-loop) (r : Result Landing ℕ) → p.run_aside.result ≡ r →
+    let w = p.before.before.before.before in
     let q = read_set w in
     let l = (loop-of q).loop-left in
     let s = (start_of (loop-of q)).args in
-    let v = w.in-Value in
+    let v = w.in-Some in
     (Lands s.code.now s.readings.now s.allowance l.frame
-    (went_to (pushed w.before.before.before.begin.new.state l.frame v.k v.w v.t) l.frame (l.address + v.s)) (s.allowance - l.left + v.s)
+    (went_to (pushed w.before.before.before.begin.new.state l.frame v.begun.depth v.begun.word v.begun.ty) l.frame (l.address + v.begun.steps)) (s.allowance - l.left + v.begun.steps)
     p.run_aside.new.state r)
-    × (Grows s.code.now (s.base + 8 * (l.address + v.s)) (s.allowance - l.left + v.s) s.allowance r)
+    × (Grows s.code.now (s.base + 8 * (l.address + v.begun.steps)) (s.allowance - l.left + v.begun.steps) s.allowance r)
 leads-to p r e =
-    let w = p.before.before in
+    let w = p.before.before.before.before in
     let q = read_set w in
     let l = (loop-of q).loop-left in
     let s = (start_of (loop-of q)).args in
-    let v = w.in-Value in
+    let v = w.in-Some in
     subst
-    (λ (z : Landing). (Lands s.code.now s.readings.now s.allowance l.frame
-    (went_to (pushed w.before.before.before.begin.new.state l.frame v.k v.w v.t) l.frame (l.address + v.s)) (s.allowance - l.left + v.s)
+    (λ (z : Result Landing ℕ). (Lands s.code.now s.readings.now s.allowance l.frame
+    (went_to (pushed w.before.before.before.begin.new.state l.frame v.begun.depth v.begun.word v.begun.ty) l.frame (l.address + v.begun.steps)) (s.allowance - l.left + v.begun.steps)
     p.run_aside.new.state z)
-    × (Grows s.code.now (s.base + 8 * (l.address + v.s)) (s.allowance - l.left + v.s) s.allowance z))
+    × (Grows s.code.now (s.base + 8 * (l.address + v.begun.steps)) (s.allowance - l.left + v.begun.steps) s.allowance z))
     e p.run_aside.ensures
 
 top-of-requires : tie.Need-top_of-t-requires invariant-loop decreases-loop
@@ -221,66 +221,62 @@ begin-requires : tie.Need-begin-requires invariant-loop decreases-loop
 begin-requires c κs = begin-asks (ready c.before)
 
 add-run-aside : tie.Need-overflow_add-address invariant-loop decreases-loop
-add-run-aside c = omega (arith, (room_whole (set c.before).0.aside).address)
+add-run-aside c = omega (arith, (room_whole (set c.before.before).0.aside).address)
 
 sub-run-aside : tie.Need-overflow_sub-allowance invariant-loop decreases-loop
-sub-run-aside c = (loop-of (read_set c.before)).loop-left.invariant.1
+sub-run-aside c = (loop-of (read_set c.before.before)).loop-left.invariant.1
 
 add-run-aside-2 : tie.Need-overflow_add-allowance invariant-loop decreases-loop
 add-run-aside-2 c =
-    let p = c.before in
+    let p = c.before.before.before in
     omega (arith, more-at p, one-step (ready (read_set p)) (value p), (start_of (loop-of (read_set p))).ranges.allowance.fits)
 
 run-aside-requires : tie.Need-run_aside-requires invariant-loop decreases-loop
 run-aside-requires c κs =
-    let p = c.before in
+    let p = c.before.before.before in
     (coded (start_of (loop-of (read_set p))).requires.0, (set p).0, omega (arith, more-at p, one-step (ready (read_set p)) (value p)))
 
 -- the steps taken at its end
-came-to : (p : tie.After-run_aside invariant-loop decreases-loop) (x n : ℕ) → p.run_aside.result ≡ landing.Lands x n → n ≤ (start_of (loop-of (read_set p.before.before))).args.allowance
-came-to p x n e = (leads-to p _ e).0.0.upto
+came-to : (p : tie.After-run_aside invariant-loop decreases-loop) (r : Landing) → p.run_aside.result ≡ Ok r → r.taken ≤ (start_of (loop-of (read_set p.before.before.before.before))).args.allowance
+came-to p r e = (leads-to p _ e).0.0.upto
 
 sub-left : tie.Need-overflow_sub-left invariant-loop decreases-loop
-sub-left c = came-to c.before.before.before _ _ c.in-Lands.is
+sub-left c = came-to c.before.before.before.before _ c.in-Ok.is
 
-loop-less : tie.Need-loop-left-smaller-in-Lands invariant-loop decreases-loop
+loop-less : tie.Need-loop-left-smaller-in-Ok invariant-loop decreases-loop
 loop-less c =
-    let p = c.before.before.before in
-    let w = p.before.before in
-    let v = c.in-Lands in
-    let g = grows (ready (read_set w)) (start_of (loop-of (read_set w))).args.base refl refl (more-at w) v.i v.n (value w) (leads-to p _ v.is).1 in
-    omega (arith, g, sub-left c, (loop-of (read_set w)).loop-left.invariant.1)
+    let p = c.before.before.before.before in
+    let w = p.before.before.before.before in
+    let v = c.in-Ok in
+    let g = grows (ready (read_set w)) (start_of (loop-of (read_set w))).args.base refl refl (more-at w) v.landing (value w) (leads-to p _ v.is).1 in
+    omega (arith, g, came-to p _ v.is, (loop-of (read_set w)).loop-left.invariant.1)
 
-loop-again : tie.Need-loop-left-preserved-in-Lands invariant-loop decreases-loop
+loop-again : tie.Need-loop-left-preserved-in-Ok invariant-loop decreases-loop
 loop-again c =
-    let p = c.before.before.before in
-    let w = p.before.before in (
-      recount (omega (arith, sub-left c))
-          (landed (ready (read_set w)) _ (set w) (leads-to p _ c.in-Lands.is).0 (p.run_aside.auto.state ∙ w.before.before.before.begin.auto.state)
-          (omega (arith, (leads-to p _ c.in-Lands.is).1.0))),
+    let p = c.before.before.before.before in
+    let w = p.before.before.before.before in (
+      recount (omega (arith, came-to p _ c.in-Ok.is))
+          (landed (ready (read_set w)) _ (set w) (leads-to p _ c.in-Ok.is).0 (p.run_aside.auto.state ∙ w.before.before.before.begin.auto.state)
+          (omega (arith, (leads-to p _ c.in-Ok.is).1.0))),
       omega arith,
     )
 
 release-requires : tie.Need-release-answer-requires invariant-loop decreases-loop
 release-requires c κs =
     let p = c.before.before.before.before in
-    let w = p.before.before in
-    let B = broken (ready (read_set w)) _ (set w) (leads-to p _ c.before.in-Breaks.is).0 in
+    let w = p.before.before.before.before in
+    let B = broken (ready (read_set w)) _ (set w) (leads-to p _ c.before.in-Err.is).0 in
     (B.0, B.1, (start_of (loop-of (read_set w))).requires.2, B.2)
 
-same_length : tie.Need-shape_of-state-in-Breaks invariant-loop decreases-loop
+same_length : tie.Need-shape_of-state-in-Err invariant-loop decreases-loop
 same_length c =
-    let at-release = c.before.before in
-    let at-run-aside = at-release.before.before.before.before.before in
-    let at-begin = at-run-aside.before.before.before.before.before in
-    let at-loop = at-begin.before.before.before.before.before.before.before.before in
-    at-release.release-answer.auto.state ∙ at-run-aside.run_aside.auto.state ∙ at-begin.begin.auto.state ∙ at-loop.loop-left.invariant.0.long
+    c.release-answer.auto.state ∙ c.run_aside.auto.state ∙ c.begin.auto.state ∙ c.loop-left.invariant.0.long
 
-returns : tie.Need-returns-in-Breaks invariant-loop decreases-loop
+returns : tie.Need-returns-in-Err invariant-loop decreases-loop
 returns c =
     let p = c.before.before.before.before.before.before.before in
-    let w = p.before.before in
-    let B = broken (ready (read_set w)) _ (set w) (leads-to p _ c.before.before.before.before.in-Breaks.is).0 in
+    let w = p.before.before.before.before in
+    let B = broken (ready (read_set w)) _ (set w) (leads-to p _ c.before.before.before.before.in-Err.is).0 in
     c.before.before.release-answer.ensures _ (alive (loop-of (read_set w))) B.3
 
 dispatch-requires : tie.Need-dispatch-requires invariant-loop decreases-loop
