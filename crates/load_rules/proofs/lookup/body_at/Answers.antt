@@ -4,9 +4,6 @@ use Rattle.load_records.proofs.Known.{head_of}
 use Rattle.load_rules.proofs.Places.{body-place}
 use Rattle.load_rules.proofs.lookup.body_at.Goals as goal
 
-pub offset_bounds-bodies-body : goal.offset_bounds-bodies-body
-offset_bounds-bodies-body c = omega (arith, (head_of _ c.requires.0.well).few-bodies)
-
 pub bounds-bodies-body : goal.bounds-bodies-body
 bounds-bodies-body c = omega (arith, (head_of _ c.requires.0.well).few-bodies)
 

@@ -4,9 +4,6 @@ use Rattle.load_records.proofs.Known.{head_of}
 use Rattle.load_rules.proofs.Places.{class-place}
 use Rattle.load_rules.proofs.lookup.class_at.Goals as goal
 
-pub offset_bounds-classes-class : goal.offset_bounds-classes-class
-offset_bounds-classes-class c = omega (arith, (head_of _ c.requires.0.well).few-classes)
-
 pub bounds-classes-class : goal.bounds-classes-class
 bounds-classes-class c = omega (arith, (head_of _ c.requires.0.well).few-classes)
 

@@ -5,9 +5,6 @@ use Rattle.load_records.proofs.Known.{head_of}
 use Rattle.load_rules.proofs.Places.{end-next, end-last}
 use Rattle.load_rules.proofs.lookup.end_of.Goals as goal
 
-pub byte_at-m-requires : goal.byte_at-m-requires
-byte_at-m-requires c = omega (arith, (head_of _ c.requires.0.well).bytes)
-
 pub returns-then-body-m : goal.returns-then-body-m
 returns-then-body-m c = c.half_at.ensures.0 ∙ rw c.body_at-q.ensures.is (sym (end-next _ _ (omega arith)))
 

@@ -3,9 +3,6 @@ use native.Mathlib.Omega.{arith}
 use Rattle.load_records.proofs.Known.{code_of}
 use Rattle.load_rules.proofs.lookup.instruction_at.Goals as goal
 
-pub overflow_mul-at : goal.overflow_mul-at
-overflow_mul-at c = omega (arith, code_of _ c.requires.0 c.args.address c.requires.2)
-
 pub overflow_add-at : goal.overflow_add-at
 overflow_add-at c = omega (arith, code_of _ c.requires.0 c.args.address c.requires.2)
 
@@ -30,7 +27,3 @@ overflow_add-at-4 c =
 pub word_at-b-requires : goal.word_at-b-requires
 word_at-b-requires c =
     omega (arith, code_of _ c.requires.0 c.args.address c.requires.2)
-
-pub returns : goal.returns
-returns c =
-    let e = c.requires.1 in rw (← e) (c.byte_at-op.ensures.0, c.byte_at-a.ensures.0, c.word_at-b.ensures.0)

@@ -1,14 +1,9 @@
 -- `load_rules::ops::cell_type` meets its contract.
-use Rattle.load_records.proofs.Known.{head_of}
-use Rattle.load_rules.proofs.Cells.{owner-in, cell-far, cell-over, cell-there}
+use Rattle.load_rules.proofs.Cells.{cell-far, cell-over, cell-there}
 use Rattle.load_rules.proofs.ops.cell_type.Goals as goal
 
 pub returns-then-a-ge2 : goal.returns-then-a-ge2
 returns-then-a-ge2 c = cell-far _ _ _ _ c.if-a-ge2.true
-
-pub body_at-q-requires : goal.body_at-q-requires
-body_at-q-requires c =
-    (c.requires.0, owner-in _ c.args.a _ _ c.owner_body-o.ensures c.requires.1 (head_of _ c.requires.0.well).some-bodies)
 
 pub returns-then-c-b : goal.returns-then-c-b
 returns-then-c-b c =

@@ -23,10 +23,6 @@ returns-in-None c =
     c.half_at-f.ensures.0 (omega arith) _ c.end_of-e.ensures (omega arith) _
     c.in-None.ensures.is refl
 
-pub equal_shape-requires : goal.equal_shape-requires
-equal_shape-requires c =
-    (c.in-Some.ensures.1.inside c.in-Some.ensures.0, c.requires.3, c.requires.4)
-
 pub returns-in-Some : goal.returns-in-Some
 returns-in-Some c =
     c.equal_shape.ensures ∙ lands-some _ _ _ _ _ _ c.body_at-q.ensures.is _

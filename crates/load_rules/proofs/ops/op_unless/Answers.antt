@@ -10,10 +10,6 @@ pub returns-then-a-ne0 : goal.returns-then-a-ne0
 unfolding op_unless
 returns-then-a-ne0 c = (simp (ne_eqb _ _ c.if-a-ne0.true), tt)
 
-pub lands_at-requires : goal.lands_at-requires
-lands_at-requires c =
-    (c.requires.0, c.requires.1, c.requires.2, c.requires.3.0, (fit-goes _ _ _ c.pop_type.ensures.1 c.in-Goes.is).1)
-
 pub returns-then-lands_at : goal.returns-then-lands_at
 returns-then-lands_at c = (
   unless-lands _ _ _ _ _ _ c.if-a-ne0.false _ _ (told c.args.stack.now c.in-Goes.is c.pop_type.ensures.0)

@@ -4,9 +4,6 @@ use Rattle.load_records.proofs.Whole.{shape-start}
 use Rattle.load_rules.proofs.ShapeSearch as law
 use Rattle.load_rules.proofs.shapes.first_shape.Goals as goal
 
-pub overflow_mul-instructions : goal.overflow_mul-instructions
-overflow_mul-instructions c = omega (arith, shape-start _ _ _ c.requires.3 c.requires.2, law.end_low _ c.requires.0 c.requires.1 0 (omega arith))
-
 pub overflow_add-base : goal.overflow_add-base
 overflow_add-base c = omega (arith, shape-start _ _ _ c.requires.3 c.requires.2, law.end_low _ c.requires.0 c.requires.1 0 (omega arith))
 

@@ -3,9 +3,6 @@ use native.Mathlib.Omega.{arith}
 use Rattle.load_rules.proofs.ShapeSearch as law
 use Rattle.load_rules.proofs.shapes.search_shape.Goals as goal
 
-pub loop-p-init : goal.loop-p-init
-loop-p-init c = c.requires.2
-
 pub overflow_add-p : goal.overflow_add-p
 overflow_add-p c =
     let t = c.loop-p.invariant in omega (arith, t.2, law.end_low _ c.requires.0 c.requires.1 t.0 t.1)
@@ -21,21 +18,9 @@ pub returns-then-address-a : goal.returns-then-address-a
 returns-then-address-a c =
     law.search-gone _ c.requires.0 c.requires.1 _ _ c.loop-p.invariant c.loop-p-test.true _ c.half_at-a.ensures.0 c.if-address-a.true
 
-pub overflow_add-p-in-loop-p-2 : goal.overflow_add-p-in-loop-p-2
-overflow_add-p-in-loop-p-2 c =
-    omega (arith, law.search-room _ c.requires.0 c.requires.1 _ _ c.loop-p.invariant c.loop-p-test.true)
-
-pub overflow_add-p-in-loop-p-3 : goal.overflow_add-p-in-loop-p-3
-overflow_add-p-in-loop-p-3 c =
-    omega (arith, law.search-room _ c.requires.0 c.requires.1 _ _ c.loop-p.invariant c.loop-p-test.true)
-
 pub byte_at-requires : goal.byte_at-requires
 byte_at-requires c =
     omega (arith, law.search-room _ c.requires.0 c.requires.1 _ _ c.loop-p.invariant c.loop-p-test.true)
-
-pub overflow_add-p-in-loop-p-4 : goal.overflow_add-p-in-loop-p-4
-overflow_add-p-in-loop-p-4 c =
-    omega (arith, c.byte_at.ensures.0, law.search-room _ c.requires.0 c.requires.1 _ _ c.loop-p.invariant c.loop-p-test.true)
 
 pub loop-p-preserved : goal.loop-p-preserved
 loop-p-preserved c =

@@ -4,10 +4,6 @@ use mathlib.Core.Path.{refl}
 use Rattle.load_rules.proofs.ShapeSearch as law
 use Rattle.load_rules.proofs.shapes.shape_after.Goals as goal
 
-pub returns-then-next-address : goal.returns-then-next-address
-returns-then-next-address c =
-    law.next-still _ c.requires.0 _ _ c.requires.2 c.if-next-address.true
-
 pub overflow_add-next : goal.overflow_add-next
 overflow_add-next c =
     omega (arith, law.behind-here _ c.requires.0 _ _ c.requires.2 c.if-next-address.false c.requires.3)

@@ -20,7 +20,3 @@ half_at-address-requires c =
     let t = c.requires.2 in
     let h = law.before-end _ c.requires.0 c.requires.1 t.0 _ t.1 t.2 c.if-place-code.false in
     omega (arith, t.2, law.shape-low _ c.requires.0 c.requires.1 t.0 h)
-
-pub returns : goal.returns
-returns c =
-    (refl, λ j h e. law.told-shape _ c.requires.0 c.requires.1 _ j h e c.if-place-code.false _ c.half_at-address.ensures.0)

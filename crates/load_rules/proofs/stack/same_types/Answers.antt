@@ -1,11 +1,8 @@
 -- `load_rules::stack::same_types` meets its contract.
 use native.Mathlib.Omega.{arith}
-use mathlib.Core.Path.{refl, sym, ◌∙◌}
+use mathlib.Core.Path.{sym, ◌∙◌}
 use Rattle.load_rules.proofs.RecordTypes.{alike-down, alike-off, alike_end}
 use Rattle.load_rules.proofs.stack.same_types.Goals as goal
-
-pub loop-i-init : goal.loop-i-init
-loop-i-init c = refl
 
 pub returns-then-stack-i : goal.returns-then-stack-i
 returns-then-stack-i c = sym (c.loop-i.invariant ∙ alike-off _ _ _ _ (omega arith) c.if-stack-i.true)

@@ -1,11 +1,8 @@
 -- `load_rules::stack::take_types` meets its contract.
 use native.Mathlib.Omega.{arith}
-use mathlib.Core.Path.{refl, sym, ◌∙◌}
+use mathlib.Core.Path.{sym, ◌∙◌}
 use Rattle.load_rules.proofs.RecordTypes.{takes-end, takes_none, takes-other, takes_one}
 use Rattle.load_rules.proofs.stack.take_types.Goals as goal
-
-pub loop-n-init : goal.loop-n-init
-loop-n-init c = (omega arith, refl)
 
 pub returns-then-e-eq0 : goal.returns-then-e-eq0
 returns-then-e-eq0 c = (sym (c.loop-n.invariant.1 ∙ takes_none _ _ _ _ _ _ (omega arith) c.if-e-eq0.true), tt)
