@@ -91,13 +91,6 @@ module _ (l : List ℕ) (base : ℕ) (e : base ≡ code_base l) where
   code-passed n w r h c q = q ∙ sym (first-cut (bad_code l) n w h (λ y. rw (← e) (cut l (base + 8 * w) 8 73 78 (c y))))
 
 -- ── the shapes ──
-module _ (ix : List ℕ) (u a p : ℕ) where
-  pub noted-late : 8 * (a / 8) < u → ix ≡ cond (ltb (8 * (a / 8)) u) ix (set ix (a / 8) p)
-  noted-late h = rw (lt-ltb _ _ h)
-
-  pub noted-first : u ≤ 8 * (a / 8) → set ix (a / 8) p ≡ cond (ltb (8 * (a / 8)) u) ix (set ix (a / 8) p)
-  noted-first h = rw (le-ltb _ _ h)
-
 pub least_first : (l : List ℕ) → 0 ≡ least l 0
 unfolding least
 least_first l = refl

@@ -120,12 +120,6 @@ module _ (l : List ℕ) (p k : ℕ) (e : p ≡ class_place l k) where
     class-3 b = let w = typed-parts l p 3 2 67 76 t in rw (← e) (simp (w.0, w.1, w.2, le-ltb _ _ b) (flag (ltb 8 (byte_at l (p + 2)))))
 
 -- ── a body ──
-pub result-none : (c t : ℕ) → t ≡ 0 → eqb t 0 || not (no_type c t) ≡ true
-result-none c t e = simp (eq-eqb _ _ e)
-
-pub result-some : (c t : ℕ) → (t ≡ 0 → ⊥) → eqb t 0 || not (no_type c t) ≡ not (no_type c t)
-result-some c t e = simp (ne_eqb _ _ e)
-
 pub rises-zero : (k u a : ℕ) → k ≡ 0 → rises k u a ≡ eqb a 0
 unfolding rises
 rises-zero k u a e = simp (eq-eqb k 0 e)

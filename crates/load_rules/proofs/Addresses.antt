@@ -93,6 +93,3 @@ module _ (l : List ℕ) (k i : ℕ) (ek : k ≡ body_of l i) (f : Flow) where
       (word_at l (code_place l i + 4)) h s) → leave l k i e ≡ step l i f
   unfolding step
   step_is g e x y = rw (y, x, ek)
-
-pub effect_is : (l : List ℕ) (k o a b o' a' b' h : ℕ) (s : List ℕ) → o ≡ o' → a ≡ a' → b ≡ b' → effect l k o a b h s ≡ effect l k o' a' b' h s
-effect_is l k o a b o' a' b' h s x y z = rw (x, y, z)

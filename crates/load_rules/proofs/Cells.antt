@@ -21,13 +21,6 @@ module _ (l : List ℕ) (a b h : ℕ) (s : List ℕ) (z : b ≡ 0) where
   unfolding op_null
   null-goes p t e = rw (eq-eqb b 0 z, lt-ltb a (classes l) p, e)
 
-pub owner-in : (k a n o : ℕ) → o ≡ owner_body k a → k < n → 1 ≤ n → o < n
-owner-in k a n o e h p = rw e (go (eqb a 0))
-  where
-    go : (x : Bool) → cond x k 0 < n
-    go true = h
-    go false = p
-
 -- the type of a cell
 module _ (l : List ℕ) (k a b : ℕ) where
   pub cell-far : 2 ≤ a → None ≡ cell_type l k a b

@@ -48,9 +48,6 @@ module _ (l : List ℕ) (W : Well l) (E : Ended l) where
     pub told-end : p + 2 ≡ length l → 65536 ≡ next_address l j
     told-end z = rw (le-ltb j (shapes l) (omega (arith, at-end j p h e z)))
 
-    pub told-shape : (p + 2 ≡ length l → ⊥) → (a : ℕ) → a ≡ half_at l (p + 2) → a ≡ next_address l j
-    told-shape z a d = rw (lt-ltb j (shapes l) (before-end j p h e z), ← e) d
-
 -- ── the shape of an address ──
 module _ (l : List ℕ) (W : Well l) where
   shape-found : (x : ℕ) → x < count l → shape_at l x ≡ find l (shapes l) x
@@ -91,18 +88,6 @@ module _ (l : List ℕ) (W : Well l) where
 
     pub next-absent : (s.address ≡ i → ⊥) → 0 ≡ shape_at l i
     next-absent n = absent N.index i N.within N.passed (λ h. omega (arith, some_next h, N.ahead, n))
-
-    -- the one after address i, if that is not its own
-    pub next-still : (s.address ≡ i → ⊥) → Next l (i + 1) s
-    next-still n = record {
-      index = N.index;
-      within = N.within;
-      stands = N.stands;
-      passed = omega (arith, N.passed);
-      is = N.is;
-      ahead = omega (arith, N.ahead, n);
-      few = N.few;
-    }
 
     -- and if it is, the one behind it
     pub behind-here : s.address ≡ i → i < count l → s.place + 6 + byte_at l (s.place + 5) ≤ length l
@@ -182,10 +167,3 @@ module _ (l ix : List ℕ) (S : Shaped l ix) (x r : ℕ) (h : x < count l) (e : 
       go : Group l (shapes l) (x / 8) r → ShapeAt l x 0
       go (vacant y f) = nowhere l S.well (sym (shape-found l S.well x h ∙ find_none l (shapes l) x (λ j g q. f j g (ap (λ (i : ℕ). i / 8) q))))
       go (begins j g q u) = absurd (omega (arith, q, shape-past l j))
-
-  pub group-begins : (r ≡ 0 → ⊥) → NotPast l x r
-  group-begins n = go group_of
-    where
-      go : Group l (shapes l) (x / 8) r → NotPast l x r
-      go (vacant y f) = absurd (n y)
-      go (begins j g q u) = (j, omega arith, q, omega arith)
