@@ -1,10 +1,10 @@
 -- The verdict on a macro as the code answers it is the one over macros that were read, and its numbers fit the fields that answers are packed into.
-use Rattle.std.specs.Prelude.{◌≡◌, refl, List, ℕ, ◌<◌}
+use Rattle.std.specs.Prelude.{◌≡◌, refl, List, ℕ, ◌<◌, Err}
 use Rattle.std.proofs.Common.{sym, ap, ◌∙◌, subst, arith}
 use Rattle.words.specs.Laws.{Bytes}
 use Rattle.values.specs.Ends.{Judged, accepted, refused}
 use Rattle.values.specs.declared.Refusal.{Refusal}
-use Rattle.values.specs.Refusals.{coded, in_code}
+use Rattle.values.specs.Refusals.{coded}
 use Rattle.bytecode.specs.Macro.{Macro}
 use Rattle.bytecode.specs.Rules.{judge_macro}
 use Rattle.load_places.specs.Rules.{Verdict, judge}
@@ -12,8 +12,6 @@ use Rattle.load_places.specs.Rules as places
 use Rattle.load_views.specs.View.{verdict_of}
 use Rattle.load_views.proofs.Views.{judges}
 use Rattle.load_check.specs.Small.{Narrow, narrow}
-use Rattle.load_check.specs.declared.Loaded.{Loaded}
-use Rattle.load_check.specs.declared.Loaded.TheVariants.{Passes, Refused}
 use Rattle.load_check.specs.Loaded.{loaded_of, told}
 
 pub loads : (l : List ℕ) (v : Verdict) → v ≡ judge l → told v ≡ loaded_of (judge_macro l)
@@ -27,7 +25,7 @@ pub small : (l : List ℕ) → Bytes l → (n p : ℕ) → places.refused n p �
 small l b n p e = subst Narrow (sym e) (narrow l b)
 
 -- a refusal's numbers fit the fields that answers are packed into
-pub fields : (l : List ℕ) → Bytes l → (r : Refusal) → Refused r ≡ loaded_of (judge_macro l) → (r.number < 256) × (r.place < 16777216)
+pub fields : (l : List ℕ) → Bytes l → (r : Refusal) → Err r ≡ loaded_of (judge_macro l) → (r.number < 256) × (r.place < 16777216)
 fields l b r e = go (judge l) refl
   where
     go : (v : Verdict) → v ≡ judge l → (r.number < 256) × (r.place < 16777216)

@@ -10,11 +10,3 @@ pub use load_rules::{
     next_body, shape_after,
 };
 pub use root::root_at;
-use values::Refusal;
-
-// The place of a refusal is a record's index for 8, an address for 9.
-#[derive(Drop)]
-pub enum Loaded {
-    Passes,
-    Refused(Refusal),
-}

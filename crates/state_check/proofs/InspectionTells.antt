@@ -5,6 +5,7 @@ use mathlib.Core.List.{List}
 use mathlib.Core.Option.{Option, none, some}
 use Prim.Native.Nat.{ℕ, ◌<◌, ◌≤◌}
 use native.Mathlib.Omega.{arith}
+use Rattle.std.specs.Prelude.{Option as Choice, Some, None, Result, Ok, Err}
 use lib.ListN.{length}
 use lib.Dec.{ltb, leb, eqb}
 use borrow.Author.Tests.{eq-eqb, eqb-true, lt-ltb, ltb-true, leb-true}
@@ -12,25 +13,24 @@ use Rattle.logic.specs.Options.{is_some}
 use Rattle.words.specs.Numbers.{byte_at, half_at}
 use Rattle.words.specs.Laws.{Bytes}
 use Rattle.values.specs.Ends.{refusal, Judged, accepted, refused as refused_by}
-use Rattle.values.specs.Refusals.{coded}
+use Rattle.values.specs.Refusals.{refusal_of}
+use Rattle.values.specs.declared.Refusal.{Refusal}
 use Rattle.bytecode.specs.Macro.{Macro}
 use Rattle.bytecode.specs.Rules.{judge_macro}
 use Rattle.bytecode.specs.Machine.{Machine}
 use Rattle.bytecode.specs.Lent.{sound_state}
 use Rattle.load_places.specs.Records.{bodies, count}
-use Rattle.load_places.specs.Rules.{Verdict, judge, passes, refused}
+use Rattle.load_places.specs.Rules.{Verdict, judge, passes, refused, broken}
+use Rattle.load_places.specs.Search.{first}
 use Rattle.load_check.specs.Views.{verdict_of, judges}
 use Rattle.load_check.specs.Loaded.{loaded_of}
-use Rattle.load_check.proofs.LoadedLaws.{fields}
-use Rattle.load_check.specs.declared.Loaded.TheVariants.{Passes, Refused as Turned}
+use Rattle.load_check.proofs.LoadedLaws.{small}
 use Rattle.state_sound.specs.Each.{each, each-get, each-alike, each_none}
 use Rattle.state_sound.specs.Fits.{body_in, depth_in, open_in, address_in, held, groups_fit, record_fits, frame_fits, running_fits, plain_fits, stands, activations_in, sound_bytes}
 use Rattle.logic.specs.Tests.{no-else}
 use Rattle.state_sound.proofs.Decoded.{cell_count}
 use Rattle.state_sound.proofs.Sounds.{sounds}
-use Rattle.state_check.specs.declared.inspection.Inspected.{Inspected}
-use Rattle.state_check.specs.declared.inspection.Inspected.TheVariants.{Sound, Unsound, Refused}
-use Rattle.state_check.specs.Tested.{AnyCounted, fit_before}
+use Rattle.state_check.specs.Tested.{AnyCounted, fit_before, Tests}
 use Rattle.state_check.specs.Inspecting.{records_in, sized_fits, Placed, Tells, Held, NotHeld, Inspects}
 use Rattle.state_check.proofs.TypeRows.{by-test}
 use Rattle.bytecode.specs.State.{state_length}
@@ -102,6 +102,14 @@ sound-is c l true ok n r e a b f =
     (λ z. let a' : n ≡ byte_at l 2 = rw z at a in let b' : r ≡ half_at l 4 = rw z at b in rw (a', b', z))
     (λ z. let a' : n ≡ 0 = rw z at a in rw (a', z) (each_none _ ∙ sym (each_none _))))
 
+-- ── what the walk told ──
+module _ (c l : List ℕ) (r n : ℕ) (x : Result Bool ℕ) (T : Tests c l r n x) where
+  pub walked-bad : (at : ℕ) → x ≡ Err at → (at ≡ first (broken c) (count c)) × (at < count c)
+  walked-bad at e = rw e at T
+
+  pub walked : (ok : Bool) → x ≡ Ok ok → (count c ≡ first (broken c) (count c)) × (ok ≡ fit_before c l r n (count c))
+  walked ok e = rw e at T
+
 -- ── of the macro and the state ──
 never : {A : Type 0} (n k : ℕ) → ◌≡◌ {A = Verdict} (refused n k) passes → A
 never n k e = let y : ◌≡◌ {A = ℕ} 0 1 = cc e in absurd (omega arith)
@@ -130,24 +138,22 @@ module _ (c l : List ℕ) where
   not-held m e none q s = record { macro = m; passes = e; unsound = q }
   not-held m e (some x) q s = absurd (true≢false s)
 
-  pub told : Bytes l → (bx cx : List ℕ) (x : Inspected) → Tells c l bx cx x → Inspects c l bx cx x
-  told B bx cx (Sound base) t =
+  pub told : Bytes l → (bx cx : List ℕ) (x : Result (Choice ℕ) Refusal) → Tells c l bx cx x → Inspects c l bx cx x
+  told B bx cx (Ok (Some base)) t =
       let a = accepts t.0 in (is_held a.0 a.1 (sound_state a.0 l) refl (sounds c a.0 a.1 l B ∙ t.1), t.2)
-  told B bx cx Unsound t =
+  told B bx cx (Ok None) t =
       let a = accepts t.0 in not-held a.0 a.1 (sound_state a.0 l) refl (sounds c a.0 a.1 l B ∙ t.1)
-  told B bx cx (Refused n k) t = refuses n k t
+  told B bx cx (Err r) t = refuses r.number r.place t
+
+  -- a place fits the field that holds it
+  pub place-fits : Bytes c → (n k : ℕ) → judge c ≡ refused n k → k < 4294967296
+  place-fits B n k e = let h = small c B n k (sym e) in omega (arith, h.1)
 
 -- ── of the macro alone, whatever bytes it was judged beside ──
-module _ (c l bx cx : List ℕ) (x : Inspected) (I : Inspects c l bx cx x) where
-  pub loads-sound : (base : ℕ) → x ≡ Sound base → Passes ≡ loaded_of (judge_macro c)
-  loads-sound base e = let H : Held c l × Placed c bx cx base = rw e at I in rw H.0.passes
+module _ (c l bx cx : List ℕ) (x : Result (Choice ℕ) Refusal) (I : Inspects c l bx cx x) where
+  pub loads-passed : (o : Choice ℕ) → x ≡ Ok o → Ok tt ≡ loaded_of (judge_macro c)
+  loads-passed (Some base) e = let H : Held c l × Placed c bx cx base = rw e at I in rw H.0.passes
+  loads-passed None e = let H : NotHeld c l = rw e at I in rw H.passes
 
-  pub loads-unsound : x ≡ Unsound → Passes ≡ loaded_of (judge_macro c)
-  loads-unsound e = let H : NotHeld c l = rw e at I in rw H.passes
-
-  pub loads-refused : (n k : ℕ) → x ≡ Refused n k → Turned (coded n k) ≡ loaded_of (judge_macro c)
-  loads-refused n k e = let H : judge_macro c ≡ refused_by (refusal n k) = rw e at I in rw H
-
-  -- a refusal's numbers fit the fields that answers are packed into
-  pub loads-small : Bytes c → (n k : ℕ) → x ≡ Refused n k → (n < 256) × (k < 16777216)
-  loads-small B n k e = fields c B (coded n k) (loads-refused n k e)
+  pub loads-refused : (r : Refusal) → x ≡ Err r → Err r ≡ loaded_of (judge_macro c)
+  loads-refused r e = let H : judge_macro c ≡ refused_by (refusal_of r) = rw e at I in rw H

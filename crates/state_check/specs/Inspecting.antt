@@ -1,8 +1,10 @@
 -- What an inspection tells: by the bytes alone, and of the macro and the state that they hold.
-use Rattle.std.specs.Prelude.{◌≡◌, Bool, true, false, cond, List, ℕ, eqb, length}
+use Rattle.std.specs.Prelude.{◌≡◌, Bool, true, false, cond, List, ℕ, eqb, length, Option, Some, None, Result, Ok, Err}
 use Rattle.std.proofs.Math.Option.{some, none}
 use Rattle.words.specs.Numbers.{byte_at, half_at}
-use Rattle.values.specs.Ends.{refusal, accepted, refused as refused_by}
+use Rattle.values.specs.Ends.{accepted, refused as refused_by}
+use Rattle.values.specs.Refusals.{refusal_of}
+use Rattle.values.specs.declared.Refusal.{Refusal}
 use Rattle.bytecode.specs.Macro.{Macro}
 use Rattle.bytecode.specs.Rules.{judge_macro}
 use Rattle.bytecode.specs.Machine.{Machine}
@@ -12,8 +14,6 @@ use Rattle.load_places.specs.Records.{code_base}
 use Rattle.load_places.specs.Rules.{judge, passes, refused}
 use Rattle.load_check.specs.Lookups.{Bodied, Classed}
 use Rattle.state_sound.specs.Fits.{plain_fits, sound_bytes}
-use Rattle.state_check.specs.declared.inspection.Inspected.{Inspected}
-use Rattle.state_check.specs.declared.inspection.Inspected.TheVariants.{Sound, Unsound, Refused}
 
 -- as many records count while activations stand
 abbrev pub records_in : List ℕ → ℕ
@@ -29,10 +29,10 @@ pub record Placed (c bx cx : List ℕ) (base : ℕ) : Type 0 where
   pub classed : Classed c cx
   pub based : base ≡ code_base c
 
-abbrev pub Tells : List ℕ → List ℕ → List ℕ → List ℕ → Inspected → Type 0
-Tells c l bx cx (Sound base) = (judge c ≡ passes) × (sound_bytes c l ≡ true) × Placed c bx cx base
-Tells c l bx cx Unsound = (judge c ≡ passes) × (sound_bytes c l ≡ false)
-Tells c l bx cx (Refused n k) = judge c ≡ refused n k
+abbrev pub Tells : List ℕ → List ℕ → List ℕ → List ℕ → Result (Option ℕ) Refusal → Type 0
+Tells c l bx cx (Ok (Some base)) = (judge c ≡ passes) × (sound_bytes c l ≡ true) × Placed c bx cx base
+Tells c l bx cx (Ok None) = (judge c ≡ passes) × (sound_bytes c l ≡ false)
+Tells c l bx cx (Err r) = judge c ≡ refused r.number r.place
 
 -- a macro that passes and a sound state of it
 pub record Held (c l : List ℕ) : Type 0 where
@@ -47,7 +47,7 @@ pub record NotHeld (c l : List ℕ) : Type 0 where
   pub passes : judge_macro c ≡ accepted macro
   pub unsound : sound_state macro l ≡ none
 
-abbrev pub Inspects : List ℕ → List ℕ → List ℕ → List ℕ → Inspected → Type 0
-Inspects c l bx cx (Sound base) = Held c l × Placed c bx cx base
-Inspects c l bx cx Unsound = NotHeld c l
-Inspects c l bx cx (Refused n k) = judge_macro c ≡ refused_by (refusal n k)
+abbrev pub Inspects : List ℕ → List ℕ → List ℕ → List ℕ → Result (Option ℕ) Refusal → Type 0
+Inspects c l bx cx (Ok (Some base)) = Held c l × Placed c bx cx base
+Inspects c l bx cx (Ok None) = NotHeld c l
+Inspects c l bx cx (Err r) = judge_macro c ≡ refused_by (refusal_of r)

@@ -1,5 +1,5 @@
 -- What the walk that tests activations may take for granted, and what it tells.
-use Rattle.std.specs.Prelude.{◌≡◌, Bool, true, false, cond, List, ℕ, ◌+◌, ◌<◌, ◌≤◌, eqb, ltb, length}
+use Rattle.std.specs.Prelude.{◌≡◌, Bool, true, false, cond, List, ℕ, ◌+◌, ◌<◌, ◌≤◌, eqb, ltb, length, Result, Ok, Err}
 use Rattle.words.specs.Numbers.{byte_at}
 use Rattle.load_places.specs.Search.{first}
 use Rattle.load_places.specs.Records.{bodies, count, body_place}
@@ -44,6 +44,6 @@ pub record Upto (c l : List ℕ) (r n i : ℕ) (ok : Bool) (next : ℕ) : Type 0
   pub ahead : (k : ℕ) → k < n → i ≤ address_in l k → next ≤ address_in l k
 
 -- a walk ended at the first fault, or past all addresses
-pub record Tests (c l : List ℕ) (r n at : ℕ) (ok : Bool) : Type 0 where
-  pub upto : at ≡ first (broken c) (count c)
-  pub tested : count c ≤ at → ok ≡ fit_before c l r n (count c)
+abbrev pub Tests : List ℕ → List ℕ → ℕ → ℕ → Result Bool ℕ → Type 0
+Tests c l r n (Err at) = (at ≡ first (broken c) (count c)) × (at < count c)
+Tests c l r n (Ok ok) = (count c ≡ first (broken c) (count c)) × (ok ≡ fit_before c l r n (count c))

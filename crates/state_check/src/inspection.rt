@@ -15,22 +15,14 @@ ghost use Rattle.state_check.specs.Inspecting.{records_in, sized_fits, Inspects,
 ghost use Rattle.bytecode.specs.Rules.{judge_macro};
 ghost use Rattle.bytecode.specs.State.{state_length};
 
-use crate::tests::{both, plain_fits, row_fits};
+use crate::tests::{plain_fits, row_fits};
 use formats::compiled::*;
 use formats::limits::*;
 use formats::state::*;
 use formats::wide;
-use load_check::{Loaded, Located};
+use load_check::Located;
 use load_places::Moved;
 use values::Refusal;
-
-// Sound, with the place of the first instruction; unsound (10); or refused with the refusal's number and place.
-#[derive(Drop)]
-pub enum Inspected {
-    Sound(usize),
-    Unsound,
-    Refused(usize, usize),
-}
 
 // Whether as many bytes are the same in two rows.
 fn same_row(code: &[u8], place: usize, row: &[u8], from: usize, count: usize) -> bool
@@ -38,12 +30,10 @@ fn same_row(code: &[u8], place: usize, row: &[u8], from: usize, count: usize) ->
     ensures { result ≡ each (λ j. eqb (byte_at code.now (place + j)) (byte_at row.now (from + j))) 0 count }
 {
     let mut ok = true;
-    let mut j: usize = 0;
-    while j < count {
+    for j in 0..count {
         let a = words::wide::byte_at(code, place + j);
         let b = words::wide::byte_at(row, from + j);
-        ok = both(ok, a == b);
-        j += 1;
+        ok &= a == b;
     }
     ok
 }
@@ -170,8 +160,7 @@ fn all_stand(
         (tops stack.now 0 depth)) true) 0 activations }
 {
     let mut ok = true;
-    let mut k: usize = 0;
-    while k < activations {
+    for k in 0..activations {
         let f = stands_if(
             code,
             bodies,
@@ -185,8 +174,7 @@ fn all_stand(
             holds,
             depth,
         );
-        ok = both(ok, f);
-        k += 1;
+        ok &= f;
     }
     ok
 }
@@ -243,11 +231,9 @@ fn next_wanted(state: &[u8], activations: usize, address: usize) -> usize
     ensures { (k : ℕ) → k < activations → address ≤ address_in state.now k → result ≤ address_in state.now k }
 {
     let mut best: usize = 65536;
-    let mut k: usize = 0;
-    while k < activations {
+    for k in 0..activations {
         let a = words::wide::half_at(state, ACTIVATIONS_AT + ACTIVATION_BYTES * k + ADDRESS_AT);
         best = nearer(best, a, address);
-        k += 1;
     }
     best
 }
@@ -279,7 +265,7 @@ fn look(
     ensures { broken code.now address ≡ false → Upto code.now state.now records activations (address + 1) result.ok result.next }
 {
     if address < next {
-        return Wanted { ok: ok, next: next };
+        return Wanted { ok, next };
     }
     let f = found_fits(
         code,
@@ -294,38 +280,31 @@ fn look(
     );
     let j = next_wanted(state, activations, address + 1);
     Wanted {
-        ok: both(ok, f),
+        ok: ok & f,
         next: j,
     }
 }
 
-#[derive(Drop)]
-pub struct Tested {
-    pub at: usize,
-    pub ok: bool,
-}
-
-// The first address with a fault, or the count; there also whether the activations fit where they stand.
+// Whether the activations fit where they stand; or the first address with a fault.
 fn walk_tests(
     at: &Located,
     stack: &mut [u8],
     state: &[u8],
     records: usize,
     activations: usize,
-) -> Tested
+) -> Result<bool, usize>
     requires { (Stands at.now) × (length stack.old ≡ 32) × (AnyCounted at.now.code.now state.now activations) × (records ≤ 256) }
-    ensures { Tests at.now.code.now state.now records activations result.at result.ok }
+    ensures { Tests at.now.code.now state.now records activations result }
 {
     let code = at.code;
     let bodies = at.bodies;
     let stop = words::wide::half_at(code, CODE_COUNT_AT);
-    let mut address: usize = 0;
     let mut here = load_check::first_body(code, bodies);
     let mut shape = load_check::first_shape(code, at.base, stop);
     let mut flow = Moved::Ends;
     let mut ok = true;
     let mut next = next_wanted(state, activations, 0);
-    while address < stop {
+    for address in 0..stop {
         let g = load_check::found_at(code, bodies, here, shape, address, stack, flow);
         let after = load_check::shape_after(code, shape, address);
         let w = look(
@@ -343,22 +322,15 @@ fn walk_tests(
         );
         let e = load_check::go_on(at, here, after, address, stack, g);
         if load_check::is_bad(e) {
-            return Tested {
-                at: address,
-                ok: false,
-            };
+            return Err(address);
         }
         here = load_check::next_body(code, bodies, here, address);
         shape = after;
         flow = e;
         ok = w.ok;
         next = w.next;
-        address += 1;
     }
-    Tested {
-        at: address,
-        ok: ok,
-    }
+    Ok(ok)
 }
 
 #[derive(Drop)]
@@ -411,53 +383,63 @@ fn inspect_in(
     bodies: &mut [u32],
     classes: &mut [u32],
     instructions: usize,
-) -> Inspected
+) -> Result<Option<usize>, Refusal>
     requires { (bad_head code.now ≡ false) × (instructions ≡ count code.now) × (instructions ≤ 8 * length shapes.old) × (64 ≤ length bodies.old) × (16 ≤ length classes.old)
         × (Indexed code.now shapes.old instructions 0) }
     ensures { Tells code.now state.now bodies.new classes.new result }
 {
     let mut stack = [0u8; MAX_OPERANDS];
-    match load_check::scan(code, shapes, bodies, classes, instructions) {
-        Err(k) => Inspected::Refused(8, k),
-        Ok(base) => {
-            let plain = sized_fits(code, bodies, classes, base, state);
-            let counts = count_wanted(state, plain);
-            let located = Located {
-                code,
-                shapes,
-                bodies,
-                classes,
-                base,
-            };
-            let w = walk_tests(
-                &located,
-                &mut stack,
-                state,
-                counts.records,
-                counts.activations,
-            );
-            let at = w.at;
-            if at < instructions {
-                return Inspected::Refused(9, at);
-            }
-            if both(plain, w.ok) {
-                Inspected::Sound(base)
-            } else {
-                Inspected::Unsound
-            }
+    let base = match load_check::scan(code, shapes, bodies, classes, instructions) {
+        Ok(base) => base,
+        Err(k) => {
+            return Err(Refusal {
+                number: 8,
+                place: k as u32,
+            });
         }
+    };
+    let plain = sized_fits(code, bodies, classes, base, state);
+    let counts = count_wanted(state, plain);
+    let located = Located {
+        code,
+        shapes,
+        bodies,
+        classes,
+        base,
+    };
+    match walk_tests(
+        &located,
+        &mut stack,
+        state,
+        counts.records,
+        counts.activations,
+    ) {
+        Err(at) => Err(Refusal {
+            number: 9,
+            place: at as u32,
+        }),
+        Ok(fit) => Ok(if plain & fit { Some(base) } else { None }),
     }
 }
 
-// A macro and a state's bytes, whatever they are: the refusal 8 or 9 of the loading check, or whether a sound state decodes from the bytes.
+// A macro and a state's bytes, whatever they are: the refusal 8 or 9 of the loading check, or whether a sound state decodes from the bytes, and if so the place
+// of the first instruction.
 // The places of bodies and classes are left in `bodies` and `classes`. The index of shapes is cleared at each call, so that its size goes by the
 // number of instructions.
-pub fn inspect(code: &[u8], state: &[u8], bodies: &mut [u32], classes: &mut [u32]) -> Inspected
+pub fn inspect(
+    code: &[u8],
+    state: &[u8],
+    bodies: &mut [u32],
+    classes: &mut [u32],
+) -> Result<Option<usize>, Refusal>
     requires { (64 ≤ length bodies.old) × (16 ≤ length classes.old) }
     ensures { Inspects code.now state.now bodies.new classes.new result }
 {
     if load_check::bad_head(code) {
-        return Inspected::Refused(8, 0);
+        return Err(Refusal {
+            number: 8,
+            place: 0,
+        });
     }
     let instructions = words::wide::half_at(code, CODE_COUNT_AT);
     if instructions <= 512 {
@@ -474,21 +456,12 @@ pub fn inspect(code: &[u8], state: &[u8], bodies: &mut [u32], classes: &mut [u32
 
 // The loading check alone, by the same walk beside no state: a walk of its own would be a second caller of the rules' step, and cost both their speed
 // (`load_rules::go_on`).
-pub fn load(code: &[u8]) -> Loaded
+pub fn load(code: &[u8]) -> Result<(), Refusal>
     ensures { result ≡ loaded_of (judge_macro code.now) }
 {
     let mut bodies = [0u32; MAX_BODIES];
     let mut classes = [0u32; MAX_CLASSES];
     let none = [0u8; 0];
-    match inspect(code, &none, &mut bodies, &mut classes) {
-        Inspected::Sound(_) => Loaded::Passes,
-        Inspected::Unsound => Loaded::Passes,
-        Inspected::Refused(number, place) => {
-            let refusal = Refusal {
-                number: number as u8,
-                place: place as u32,
-            };
-            Loaded::Refused(refusal)
-        }
-    }
+    inspect(code, &none, &mut bodies, &mut classes)?;
+    Ok(())
 }

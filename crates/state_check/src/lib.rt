@@ -5,4 +5,4 @@
 mod inspection;
 mod tests;
 
-pub use inspection::{Inspected, inspect, load};
+pub use inspection::{inspect, load};

@@ -1,5 +1,5 @@
 // The tests of a run state's bytes that need no state found by the loading rules: values, records, activations, holds, header.
-ghost use Rattle.std.specs.Prelude.{◌≡◌, true, false, ◌&&◌, ◌||◌, ◌+◌, ◌*◌, ◌≤◌, ◌<◌, length, eqb};
+ghost use Rattle.std.specs.Prelude.{◌≡◌, true, false, ◌||◌, ◌+◌, ◌*◌, ◌≤◌, ◌<◌, length, eqb};
 ghost use Rattle.values.specs.Ends.{is_condition};
 ghost use Rattle.load_places.specs.Records.{count, code_base};
 ghost use Rattle.load_places.specs.Index.{Well};
@@ -12,13 +12,6 @@ use formats::compiled::*;
 use formats::limits::*;
 use formats::state::*;
 use formats::wide;
-
-// Folds take their tests without a branch, so that they run over many bytes at an even pace.
-pub fn both(a: bool, b: bool) -> bool
-    ensures { result ≡ (a && b) }
-{
-    if a { b } else { false }
-}
 
 // Whether w is null or one of the records, of the class of type t.
 fn points_to(state: &[u8], records: usize, t: usize, w: usize) -> bool
@@ -68,14 +61,13 @@ pub fn row_fits(
     ensures { result ≡ row_fits code.now state.now records row.now place t w count }
 {
     let mut ok = true;
-    let mut j: usize = 0;
-    while j < count {
+    // A fold takes its tests without a branch, so that it runs over many bytes at an even pace.
+    for j in 0..count {
         let a = words::wide::byte_at(state, t + j);
         let b = words::wide::byte_at(row, place + j);
         let v = words::wide::word_at(state, w + WORD_BYTES * j);
         let f = value_fits(code, state, records, a, v);
-        ok = both(ok, both(a == b, f));
-        j += 1;
+        ok &= (a == b) & f;
     }
     ok
 }
@@ -109,11 +101,9 @@ fn records_fit(code: &[u8], classes: &[u32], state: &[u8], records: usize) -> bo
     ensures { result ≡ each (record_fits code.now state.now records) 0 records }
 {
     let mut ok = true;
-    let mut k: usize = 0;
-    while k < records {
+    for k in 0..records {
         let f = record_fits(code, classes, state, records, k);
-        ok = both(ok, f);
-        k += 1;
+        ok &= f;
     }
     ok
 }
@@ -201,11 +191,9 @@ fn frames_fit(
     ensures { result ≡ each (frame_fits code.now state.now records activations) 0 activations }
 {
     let mut ok = true;
-    let mut k: usize = 0;
-    while k < activations {
+    for k in 0..activations {
         let f = frame_fits(code, bodies, base, state, records, activations, k);
-        ok = both(ok, f);
-        k += 1;
+        ok &= f;
     }
     ok
 }
@@ -216,13 +204,11 @@ fn open_holds(state: &[u8], activations: usize) -> usize
     ensures { result ≡ held state.now activations }
 {
     let mut sum: usize = 0;
-    let mut k: usize = 0;
-    while k < activations {
+    for k in 0..activations {
         sum += words::wide::byte_at(
             state,
             ACTIVATIONS_AT + ACTIVATION_BYTES * k + OWN_HOLD_COUNT_AT,
         );
-        k += 1;
     }
     sum
 }
@@ -238,10 +224,8 @@ fn groups_fit(state: &[u8], holds: usize) -> bool
         return false;
     }
     let mut ok = true;
-    let mut j: usize = 0;
-    while j < holds {
-        ok = both(ok, words::wide::byte_at(state, HOLDS_AT + j) <= LAST_GROUP);
-        j += 1;
+    for j in 0..holds {
+        ok &= words::wide::byte_at(state, HOLDS_AT + j) <= LAST_GROUP;
     }
     ok
 }

@@ -1,6 +1,6 @@
 -- `state_check::inspection::all_stand` meets its contract.
 use native.Mathlib.Omega.{arith}
-use mathlib.Core.Path.{sym, ◌∙◌}
+use mathlib.Core.Path.{sym}
 use Rattle.state_sound.specs.Each.{each_none, each_more}
 use Rattle.state_check.proofs.TestExits.{each-end}
 use Rattle.state_check.proofs.StandingLaws as law
@@ -8,7 +8,7 @@ use Rattle.load_places.specs.Search.{tops}
 use Rattle.state_check.proofs.inspection.all_stand.Goals as goal
 
 pub loop-k-init : goal.loop-k-init
-loop-k-init c = (omega arith, sym (each_none _))
+loop-k-init c = sym (each_none _)
 
 pub stands_if-f-requires : goal.stands_if-f-requires
 stands_if-f-requires c = (
@@ -20,24 +20,18 @@ stands_if-f-requires c = (
   c.requires.4,
 )
 
-pub overflow_add-k : goal.overflow_add-k
-overflow_add-k c =
-    omega (arith, (c.requires.1 (omega arith)).few)
-
 pub loop-k-preserved : goal.loop-k-preserved
-loop-k-preserved c = (
-  omega arith,
-  c.both-ok.ensures ∙ rw c.stands_if-f.ensures
-      (each_more (law.stand_at c.args.code.now
-      c.args.state.now
-      c.args.records
-      c.args.activations
-      c.args.address
-      c.args.body
-      c.args.holds
-      (tops c.args.stack.now 0
-      c.args.depth)) c.loop-k.k _ c.loop-k.invariant.1),
-)
+loop-k-preserved c =
+    rw c.stands_if-f.ensures
+    (each_more (law.stand_at c.args.code.now
+    c.args.state.now
+    c.args.records
+    c.args.activations
+    c.args.address
+    c.args.body
+    c.args.holds
+    (tops c.args.stack.now 0
+    c.args.depth)) c.loop-k.k _ c.loop-k.invariant)
 
 pub returns : goal.returns
-returns c = each-end _ _ _ _ c.loop-k.invariant.0 (omega arith) c.loop-k.invariant.1
+returns c = each-end _ _ _ _ c.loop-k.auto.k-end (omega arith) c.loop-k.invariant

@@ -1,8 +1,6 @@
 -- `state_check::inspection::inspect_in` meets its contract.
 use native.Mathlib.Omega.{arith}
-use mathlib.Core.Path.{refl, sym, ap, ◌∙◌}
-use Rattle.load_places.specs.Rules.{broken}
-use Rattle.load_places.specs.Search.{first}
+use mathlib.Core.Path.{refl, sym, ◌∙◌}
 use Rattle.load_check.specs.Walk.{Able}
 use Rattle.load_check.specs.Walk as rule
 use Rattle.load_check.specs.Lookups.{ready}
@@ -21,8 +19,8 @@ sized_fits-plain-requires c =
 pub count_wanted-counts-requires : goal.count_wanted-counts-requires
 count_wanted-counts-requires c = telling.long c.args.code.now c.args.state.now _ c.sized_fits-plain.ensures
 
-pub walk_tests-w-requires : goal.walk_tests-w-requires
-walk_tests-w-requires c =
+pub walk_tests-requires : goal.walk_tests-requires
+walk_tests-requires c =
     let scan = c.scan in
     let pre = c.requires in
     let R = ready _ _ _ _ scan.result _ c.in-Ok.is scan.ensures.1 in
@@ -40,44 +38,50 @@ walk_tests-w-requires c =
       w.small,
     )
 
-pub returns-then-at-instructions : goal.returns-then-at-instructions
-returns-then-at-instructions c =
-    let scan = c.scan in
-    sym (rule.judge-broken _ scan.result scan.ensures.0 _ c.in-Ok.is _ c.requires.1 _
-    (c.walk_tests-w.ensures.upto ∙ ap (first (broken c.args.code.now)) (sym c.requires.1)) (omega arith))
+pub overflow_cast-result : goal.overflow_cast-result
+overflow_cast-result c =
+    record { fits = telling.place-fits c.args.code.now c.args.state.now (λ k. (c.type_inv.code k).fits) 8 _ (sym (rule.judge-unread _ c.scan.result c.scan.ensures.0 _ c.in-Err.is)) }
 
 pub returns-in-Err : goal.returns-in-Err
-returns-in-Err c =
-    let scan = c.scan in
-    sym (rule.judge-unread _ scan.result scan.ensures.0 _ c.in-Err.is)
+returns-in-Err c = sym (rule.judge-unread _ c.scan.result c.scan.ensures.0 _ c.in-Err.is)
 
-pub returns-then-both : goal.returns-then-both
-returns-then-both c =
+-- the first address with a fault
+pub overflow_cast-result-in-Err-walk_tests : goal.overflow_cast-result-in-Err-walk_tests
+overflow_cast-result-in-Err-walk_tests c =
+    let at = telling.walked-bad _ _ _ _ c.walk_tests.result c.walk_tests.ensures _ c.in-Err-walk_tests.is in
+    record {
+      fits = telling.place-fits c.args.code.now c.args.state.now (λ k. (c.type_inv.code k).fits) 9 _
+          (sym (rule.judge-broken _ c.scan.result c.scan.ensures.0 _ c.in-Ok.is _ refl _ at.0 at.1));
+    }
+
+pub returns-in-Err-walk_tests : goal.returns-in-Err-walk_tests
+returns-in-Err-walk_tests c =
+    let at = telling.walked-bad _ _ _ _ c.walk_tests.result c.walk_tests.ensures _ c.in-Err-walk_tests.is in
+    sym (rule.judge-broken _ c.scan.result c.scan.ensures.0 _ c.in-Ok.is _ refl _ at.0 at.1)
+
+-- no fault: whether all fits
+pub returns-then-plain-fit : goal.returns-then-plain-fit
+returns-then-plain-fit c =
     let scan = c.scan in
     let pre = c.requires in
     let counts = c.count_wanted-counts in
     let plain = c.sized_fits-plain in
-    let walk = c.walk_tests-w in
-    let passed = sym (rule.judge-passes _ scan.result scan.ensures.0 _ c.in-Ok.is _ pre.1 _
-    (walk.ensures.upto ∙ ap (first (broken c.args.code.now)) (sym pre.1)) (omega arith)) in
-    let sounds = sym (telling.sound-is c.args.code.now c.args.state.now plain.result walk.result.ok
-    counts.result.activations counts.result.records plain.ensures counts.ensures.0 counts.ensures.1
-    (walk.ensures.tested (omega (arith, pre.1)))) in
+    let all = telling.walked _ _ _ _ c.walk_tests.result c.walk_tests.ensures _ c.in-Ok-walk_tests.is in
+    let passed = sym (rule.judge-passes _ scan.result scan.ensures.0 _ c.in-Ok.is _ refl _ all.0 (omega arith)) in
+    let sounds = sym (telling.sound-is c.args.code.now c.args.state.now plain.result _
+    counts.result.activations counts.result.records plain.ensures counts.ensures.0 counts.ensures.1 all.1) in
     let R = ready _ _ _ _ scan.result _ c.in-Ok.is scan.ensures.1 in
     let able = rule.able-ready _ _ _ _ _ R (omega (arith, scan.auto.shapes, pre.1, pre.2)) (omega (arith, scan.auto.bodies, pre.3))
     (omega (arith, scan.auto.classes, pre.4)) in
-    (passed, sounds ∙ sym c.both.ensures ∙ c.if-both.true, record { bodied = able.bodied; classed = able.classed; based = R.based })
+    (passed, sounds ∙ c.if-plain-fit.true, record { bodied = able.bodied; classed = able.classed; based = R.based })
 
-pub returns-else-both : goal.returns-else-both
-returns-else-both c =
+pub returns-else-plain-fit : goal.returns-else-plain-fit
+returns-else-plain-fit c =
     let scan = c.scan in
-    let pre = c.requires in
     let counts = c.count_wanted-counts in
     let plain = c.sized_fits-plain in
-    let walk = c.walk_tests-w in
-    let passed = sym (rule.judge-passes _ scan.result scan.ensures.0 _ c.in-Ok.is _ pre.1 _
-    (walk.ensures.upto ∙ ap (first (broken c.args.code.now)) (sym pre.1)) (omega arith)) in
-    let sounds = sym (telling.sound-is c.args.code.now c.args.state.now plain.result walk.result.ok
-    counts.result.activations counts.result.records plain.ensures counts.ensures.0 counts.ensures.1
-    (walk.ensures.tested (omega (arith, pre.1)))) in
-    (passed, sounds ∙ sym c.both.ensures ∙ c.if-both.false)
+    let all = telling.walked _ _ _ _ c.walk_tests.result c.walk_tests.ensures _ c.in-Ok-walk_tests.is in
+    let passed = sym (rule.judge-passes _ scan.result scan.ensures.0 _ c.in-Ok.is _ refl _ all.0 (omega arith)) in
+    let sounds = sym (telling.sound-is c.args.code.now c.args.state.now plain.result _
+    counts.result.activations counts.result.records plain.ensures counts.ensures.0 counts.ensures.1 all.1) in
+    (passed, sounds ∙ c.if-plain-fit.false)

@@ -1,4 +1,5 @@
 -- `state_check::inspection::look` meets its contract.
+use mathlib.Core.Path.{refl}
 use Rattle.state_check.proofs.StandingLaws as law
 use Rattle.state_check.proofs.inspection.look.Goals as goal
 
@@ -12,4 +13,4 @@ next_wanted-j-requires c =
 
 pub returns : goal.returns
 returns c =
-    λ q. law.looked _ _ _ _ _ _ _ c.requires.8 _ _ _ _ c.requires.7 c.requires.6 q c.found_fits-f.ensures c.next_wanted-j.ensures _ c.both.ensures
+    λ q. law.looked _ _ _ _ _ _ _ c.requires.8 _ _ _ _ c.requires.7 c.requires.6 q c.found_fits-f.ensures c.next_wanted-j.ensures _ refl

@@ -4,18 +4,16 @@ use Rattle.state_check.proofs.StandingLaws as law
 use Rattle.state_check.proofs.inspection.next_wanted.Goals as goal
 
 pub loop-k-init : goal.loop-k-init
-loop-k-init c = (omega arith, λ j p. absurd (omega arith))
+loop-k-init c = λ j p. absurd (omega arith)
 
 pub loop-k-preserved : goal.loop-k-preserved
-loop-k-preserved c = (
-  omega arith,
-  law.nearer-more c.args.state.now c.args.address
-      c.loop-k.k c.loop-k.best c.nearer-best.result c.half_at-a.result
-      c.loop-k.invariant.1 c.nearer-best.ensures.0 c.nearer-best.ensures.1 c.half_at-a.ensures.0,
-)
+loop-k-preserved c =
+    law.nearer-more c.args.state.now c.args.address
+    c.loop-k.k c.loop-k.best c.nearer-best.result c.half_at-a.result
+    c.loop-k.invariant c.nearer-best.ensures.0 c.nearer-best.ensures.1 c.half_at-a.ensures.0
 
 pub returns : goal.returns
-returns c = λ j p q. c.loop-k.invariant.1 j (omega arith) q
+returns c = λ j p q. c.loop-k.invariant j (omega arith) q
 
 pub overflow_mul-k : goal.overflow_mul-k
 overflow_mul-k c = omega (arith, c.requires (omega arith))
@@ -28,6 +26,3 @@ overflow_add-k-in-loop-k c = omega (arith, c.requires (omega arith))
 
 pub half_at-a-requires : goal.half_at-a-requires
 half_at-a-requires c = omega (arith, c.requires (omega arith))
-
-pub overflow_add-k-in-loop-k-2 : goal.overflow_add-k-in-loop-k-2
-overflow_add-k-in-loop-k-2 c = omega (arith, c.requires (omega arith))

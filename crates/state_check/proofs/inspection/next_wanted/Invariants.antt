@@ -1,9 +1,6 @@
-use Prim.Native.Nat.{ℕ, ◌-◌, ◌≤◌, ◌<◌}
+use Prim.Native.Nat.{ℕ, ◌≤◌, ◌<◌}
 use Rattle.state_sound.specs.Fits.{address_in}
 use Rattle.state_check.proofs.inspection.next_wanted.Given as goal
 
 abbrev pub invariant-loop-k : goal.invariant-loop-k
-invariant-loop-k l = (l.k ≤ l.activations) × ((j : ℕ) → j < l.k → l.address ≤ address_in l.state j → l.best ≤ address_in l.state j)
-
-abbrev pub decreases-loop-k : goal.decreases-loop-k
-decreases-loop-k l = l.activations - l.k
+invariant-loop-k l = ((j : ℕ) → j < l.k → l.address ≤ address_in l.state j → l.best ≤ address_in l.state j)

@@ -1,11 +1,7 @@
 use mathlib.Core.Path.{◌≡◌}
-use Prim.Native.Nat.{◌-◌, ◌≤◌}
 use Rattle.state_sound.specs.Each.{each}
 use Rattle.state_check.proofs.TypeRows.{same_at}
 use Rattle.state_check.proofs.inspection.same_row.Given as goal
 
 abbrev pub invariant-loop-j : goal.invariant-loop-j
-invariant-loop-j l = (l.j ≤ l.count) × (l.ok ≡ each (same_at l.code l.row l.place l.from) 0 l.j)
-
-abbrev pub decreases-loop-j : goal.decreases-loop-j
-decreases-loop-j l = l.count - l.j
+invariant-loop-j l = l.ok ≡ each (same_at l.code l.row l.place l.from) 0 l.j

@@ -1,5 +1,4 @@
 use mathlib.Core.Path.{◌≡◌}
-use Prim.Native.Nat.{◌-◌, ◌≤◌}
 use Rattle.load_places.specs.Search.{Clean}
 use Rattle.load_places.specs.Rules.{into, broken}
 use Rattle.load_check.specs.Walk.{Moves, InBody, Next}
@@ -9,8 +8,5 @@ use Rattle.state_check.proofs.inspection.walk_tests.Given as goal
 
 abbrev pub invariant-loop-address : goal.invariant-loop-address
 invariant-loop-address l =
-    (l.address ≤ l.stop) × InBody l.code l.address l.here × (length l.stack ≡ 32) × Moves l.stack l.flow (into l.code l.address)
+    InBody l.code l.address l.here × (length l.stack ≡ 32) × Moves l.stack l.flow (into l.code l.address)
     × Clean (broken l.code) l.address × Upto l.code l.state l.records l.activations l.address l.ok l.next × Next l.code l.address l.shape
-
-abbrev pub decreases-loop-address : goal.decreases-loop-address
-decreases-loop-address l = l.stop - l.address

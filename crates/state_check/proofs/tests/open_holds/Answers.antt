@@ -4,10 +4,10 @@ use Rattle.state_check.proofs.TestExits as law
 use Rattle.state_check.proofs.tests.open_holds.Goals as goal
 
 pub loop-k-init : goal.loop-k-init
-loop-k-init c = (omega arith, law.held_none _, omega arith)
+loop-k-init c = (law.held_none _, omega arith)
 
 pub loop-k-preserved : goal.loop-k-preserved
-loop-k-preserved c = (omega arith, rw c.byte_at-sum.ensures.0 (law.held_more _ _ _ c.loop-k.invariant.1), omega arith)
+loop-k-preserved c = (rw c.byte_at-sum.ensures.0 (law.held_more _ _ _ c.loop-k.invariant.0), omega arith)
 
 pub returns : goal.returns
-returns c = law.held-end _ _ _ _ c.loop-k.invariant.0 (omega arith) c.loop-k.invariant.1
+returns c = law.held-end _ _ _ _ c.loop-k.auto.k-end (omega arith) c.loop-k.invariant.0

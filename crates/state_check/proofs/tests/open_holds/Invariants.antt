@@ -1,10 +1,7 @@
 use mathlib.Core.Path.{◌≡◌}
-use Prim.Native.Nat.{◌*◌, ◌-◌, ◌≤◌}
+use Prim.Native.Nat.{◌*◌, ◌≤◌}
 use Rattle.state_sound.specs.Fits.{held}
 use Rattle.state_check.proofs.tests.open_holds.Given as goal
 
 abbrev pub invariant-loop-k : goal.invariant-loop-k
-invariant-loop-k l = (l.k ≤ l.activations) × (l.sum ≡ held l.state l.k) × (l.sum ≤ 255 * l.k)
-
-abbrev pub decreases-loop-k : goal.decreases-loop-k
-decreases-loop-k l = l.activations - l.k
+invariant-loop-k l = (l.sum ≡ held l.state l.k) × (l.sum ≤ 255 * l.k)
