@@ -22,8 +22,6 @@ use Rattle.table_check.specs.Checked.{checked_of}
 use Rattle.table_check.proofs.Verdicts.{place-small}
 use Rattle.load_check.specs.Loaded.{loaded_of}
 use Rattle.load_check.proofs.LoadedLaws.{fields}
-use Rattle.load_check.specs.declared.Loaded.{Loaded}
-use Rattle.load_check.specs.declared.Loaded.TheVariants.{Passes, Refused}
 use Rattle.run.specs.Answers.{verdict_of, answer_of, play_numbers}
 use Rattle.run.specs.Fields.{start_small, run_small}
 use Rattle.run.specs.Plays.{Fine, play-fine}
@@ -47,19 +45,19 @@ module _ (l : List ℕ) (a : Result (Unit {0}) Refusal) (e : a ≡ checked_of (j
   checked-small r d = let h = place-small l r (rw d at e) in omega arith
 
 -- ── the loading check ──
-abbrev loaded_numbers : Loaded → Numbers
-loaded_numbers Passes = done_numbers 0
-loaded_numbers (Refused r) = refusal_numbers (refusal_of r)
+abbrev loaded_numbers : Result (Unit {0}) Refusal → Numbers
+loaded_numbers (Ok x) = done_numbers 0
+loaded_numbers (Err r) = refusal_numbers (refusal_of r)
 
 loaded-numbers : (j : Judged Macro) → loaded_numbers (loaded_of j) ≡ verdict_numbers j
 loaded-numbers (accepted m) = refl
 loaded-numbers (refused r) = refl
 
-module _ (c : List ℕ) (a : Loaded) (e : a ≡ loaded_of (judge_macro c)) where
-  pub loaded : (v : Loaded) → a ≡ v → packed (loaded_numbers v) ≡ packed (verdict_numbers (judge_macro c))
+module _ (c : List ℕ) (a : Result (Unit {0}) Refusal) (e : a ≡ loaded_of (judge_macro c)) where
+  pub loaded : (v : Result (Unit {0}) Refusal) → a ≡ v → packed (loaded_numbers v) ≡ packed (verdict_numbers (judge_macro c))
   loaded v d = rw (← d, e, loaded-numbers (judge_macro c))
 
-  pub loaded-small : Bytes c → (r : Refusal) → a ≡ Refused r → r.place < 16777216
+  pub loaded-small : Bytes c → (r : Refusal) → a ≡ Err r → r.place < 16777216
   loaded-small B r d = (fields c B r (rw d at e)).1
 
 -- ── the start ──

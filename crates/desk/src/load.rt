@@ -3,7 +3,6 @@ ghost use Rattle.std.specs.Prelude.{◌≡◌};
 ghost use Rattle.bytecode.specs.Rules.{judge_macro};
 ghost use Rattle.bytecode.specs.Answers.{packed, verdict_numbers};
 
-use load_check::Loaded;
 use packing::{pack, pack_refusal};
 
 #[unsafe(no_mangle)]
@@ -11,7 +10,7 @@ pub extern "C" fn cue_load(code: &[u8]) -> u64
     ensures { result ≡ packed (verdict_numbers (judge_macro code.now)) }
 {
     match state_check::load(code) {
-        Loaded::Passes => pack(1, 0, 0, 0),
-        Loaded::Refused(refusal) => pack_refusal(refusal),
+        Ok(()) => pack(1, 0, 0, 0),
+        Err(refusal) => pack_refusal(refusal),
     }
 }

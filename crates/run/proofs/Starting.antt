@@ -4,6 +4,7 @@ use mathlib.Core.List.{List}
 use mathlib.Core.Option.{some}
 use Prim.Native.Nat.{ℕ, ◌+◌, ◌≤◌}
 use native.Mathlib.Omega.{arith}
+use Rattle.std.specs.Prelude.{Ok, Err}
 use lib.ListN.{length}
 use borrow.Author.Tests.{eq-eqb, ne_eqb, lt-ltb}
 use Rattle.words.specs.Numbers.{byte_at}
@@ -23,23 +24,22 @@ use Rattle.load_places.specs.Index.{Well}
 use Rattle.load_check.specs.Lookups.{BodyAt}
 use Rattle.load_check.specs.Views.{span-length, Typed, body_on, view, reads-view, some-body, Viewed, viewed, passing}
 use Rattle.load_check.specs.Loaded.{loaded_of}
-use Rattle.load_check.specs.declared.Loaded.TheVariants.{Passes, Refused}
 use Rattle.state_write.specs.Fresh.{fresh_with, fresh-is}
 
 -- ── what the loading check told ──
-pub passes-by : (j : Judged Macro) → Passes ≡ loaded_of j → (m : Macro) × (j ≡ accepted m)
+pub passes-by : (j : Judged Macro) → Ok tt ≡ loaded_of j → (m : Macro) × (j ≡ accepted m)
 passes-by (accepted m) e = (m, refl)
 passes-by (refused r) e = let z : ◌≡◌ {A = ℕ} 0 1 = cc in absurd (omega arith)
 
-refused-by : (j : Judged Macro) (r : Refusal) → Refused r ≡ loaded_of j → j ≡ refused (refusal_of r)
+refused-by : (j : Judged Macro) (r : Refusal) → Err r ≡ loaded_of j → j ≡ refused (refusal_of r)
 refused-by (accepted m) r e = let z : ◌≡◌ {A = ℕ} 0 1 = cc in absurd (omega arith)
 refused-by (refused q) r e = let z : r ≡ in_code q = cc in rw z
 
-pub start-refused : (c l : List ℕ) (r : Refusal) → Refused r ≡ loaded_of (judge_macro c) → start_on c l ≡ record { verdict = refused (refusal_of r); bytes = l }
+pub start-refused : (c l : List ℕ) (r : Refusal) → Err r ≡ loaded_of (judge_macro c) → start_on c l ≡ record { verdict = refused (refusal_of r); bytes = l }
 unfolding start_on
 start-refused c l r e = rw (refused-by (judge_macro c) r e)
 
-module _ (c : List ℕ) (P : Passes ≡ loaded_of (judge_macro c)) where
+module _ (c : List ℕ) (P : Ok tt ≡ loaded_of (judge_macro c)) where
   abbrev macro : Macro
   macro = (passes-by (judge_macro c) P).0
 

@@ -2,19 +2,19 @@
 use mathlib.Core.Path.{◌≡◌, ◌∙◌}
 use mathlib.Core.List.{List}
 use Prim.Native.Nat.{ℕ}
-use Rattle.std.specs.Prelude.{Option, Some, None}
+use Rattle.std.specs.Prelude.{Option, Some, None, Result, Ok, Err}
 use lib.ListN.{length}
 use borrow.Author.Tests.{ne_eqb}
 use Rattle.words.specs.Laws.{Bytes}
 use Rattle.values.specs.Ends.{refusal, refused}
+use Rattle.values.specs.Refusals.{refusal_of}
+use Rattle.values.specs.declared.Refusal.{Refusal}
 use Rattle.values.specs.Trace.{readings_in}
 use Rattle.bytecode.specs.Rules.{judge_macro}
 use Rattle.bytecode.specs.Runs.{refuses, Ran, run}
 use Rattle.bytecode.specs.Lent.{written, run_on}
 use Rattle.load_check.specs.Small.{base-small}
 use Rattle.state_check.specs.Inspecting.{Placed, Held, NotHeld, Inspects}
-use Rattle.state_check.specs.declared.inspection.Inspected.{Inspected}
-use Rattle.state_check.specs.declared.inspection.Inspected.TheVariants.{Sound, Unsound, Refused}
 use Rattle.machine_run.specs.Held.{Found}
 use Rattle.run.specs.Order.{Seen}
 
@@ -22,15 +22,13 @@ pub found : (c bodies classes : List ℕ) (base : ℕ) → Bytes c → Placed c 
 found c bodies classes base B P = record { bodied = P.bodied; classed = P.classed; based = P.based; small = rw P.based (base-small c P.bodied.well B) }
 
 -- ── what the inspection told ──
-module _ (c l bodies classes : List ℕ) (x : Inspected) (I : Inspects c l bodies classes x) where
-  pub told-sound : (base : ℕ) → x ≡ Sound base → Held c l × Placed c bodies classes base
-  told-sound base e = rw e at I
+module _ (c l bodies classes : List ℕ) (x : Result (Option ℕ) Refusal) (I : Inspects c l bodies classes x) where
+  pub told-passed : (o : Option ℕ) → x ≡ Ok o → Seen c l bodies classes o
+  told-passed (Some base) e = rw e at I
+  told-passed None e = rw e at I
 
-  pub told-unsound : x ≡ Unsound → NotHeld c l
-  told-unsound e = rw e at I
-
-  pub told-refused : (n k : ℕ) → x ≡ Refused n k → judge_macro c ≡ refused (refusal n k)
-  told-refused n k e = rw e at I
+  pub told-refused : (r : Refusal) → x ≡ Err r → judge_macro c ≡ refused (refusal_of r)
+  told-refused r e = rw e at I
 
 -- by where things stand, if it told that
 module _ (c l bodies classes : List ℕ) (o : Option ℕ) (S : Seen c l bodies classes o) where

@@ -12,7 +12,6 @@ use formats::limits::*;
 use machine_ops::Event;
 use machine_run::Answer;
 use packing::ANSWER_BYTES;
-use state_check::Inspected;
 use values::Refusal;
 
 // The first event, with the steps taken, where only that is asked for; or what a play gives.
@@ -139,16 +138,7 @@ pub fn go(
 {
     let mut bodies = [0u32; MAX_BODIES];
     let mut classes = [0u32; MAX_CLASSES];
-    let found = match state_check::inspect(code, state, &mut bodies, &mut classes) {
-        Inspected::Refused(number, place) => {
-            return Err(Refusal {
-                number: number as u8,
-                place: place as u32,
-            });
-        }
-        Inspected::Unsound => None,
-        Inspected::Sound(base) => Some(base),
-    };
+    let found = state_check::inspect(code, state, &mut bodies, &mut classes)?;
     play_passed(
         code, &bodies, &classes, found, state, readings, allowance, once, answers,
     )
