@@ -102,7 +102,7 @@ shape_of-stack c =
 
 pub returns : goal.returns
 returns c =
-    let all : count c.args.code.now ≡ c.loop-address.address = omega (arith, c.half_at-stop.ensures.0) in (
+    let all : count c.args.at.now.code.now ≡ c.loop-address.address = omega (arith, c.half_at-stop.ensures.0) in (
       all ∙ sym (first-none _ _ _ c.loop-address.invariant.3 (omega (arith, c.half_at-stop.ensures.0)) (omega (arith, c.half_at-stop.ensures.0))),
       law.ends_at _ _ _ _ _ _ _ _ c.loop-address.invariant.4 (omega (arith, c.half_at-stop.ensures.0)),
     )
