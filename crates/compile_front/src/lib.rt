@@ -225,6 +225,7 @@ fn put_procedure(
 }
 
 // A declaration of the root, if it is a procedure.
+// Kept (point 2) beside put_if_class: one function of both would take each record's writer and what it asks of its declaration, for one line that they share.
 fn put_if_procedure(
     table: &[u8],
     sizes: &[u16],
