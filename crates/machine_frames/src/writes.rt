@@ -3,6 +3,7 @@ ghost use Rattle.std.specs.Prelude.{◌≡◌, ◌+◌, ◌*◌, ◌≤◌, ◌<
 ghost use Rattle.std.proofs.lemmas.List.Edits.{sets};
 ghost use Rattle.machine_frames.specs.Bytes.{Framed, Recorded, valued, went_to, operand_set, cell_set, field_set, pushed, popped};
 
+use crate::reads::{CELLS, FIELDS, OPERANDS, Row, record_at};
 use formats::state::*;
 
 pub fn put_byte(state: &mut [u8], place: usize, v: u8)
@@ -28,43 +29,38 @@ pub fn go_to(state: &mut [u8], frame: usize, address: u16)
     words::put_half(state, frame + ADDRESS_AT, address);
 }
 
+fn put_in(state: &mut [u8], start: usize, row: Row, k: usize, w: u32, t: u8)
+    requires { (start + (row.words + 4 * k) + 4 ≤ length state.old) × (start + (row.types + k) < length state.old) }
+    ensures { state.new ≡ valued state.old (start + (row.words + 4 * k)) (start + (row.types + k)) w t }
+{
+    put_value(
+        state,
+        start + (row.words + WORD_BYTES * k),
+        start + (row.types + k),
+        w,
+        t,
+    );
+}
+
 pub fn put_operand(state: &mut [u8], frame: usize, k: usize, w: u32, t: u8)
     requires { Framed state.old frame k }
     ensures { state.new ≡ operand_set state.old frame k w t }
 {
-    put_value(
-        state,
-        frame + (OPERAND_WORDS_AT + WORD_BYTES * k),
-        frame + (OPERAND_TYPES_AT + k),
-        w,
-        t,
-    );
+    put_in(state, frame, OPERANDS, k, w, t);
 }
 
 pub fn put_cell(state: &mut [u8], frame: usize, j: usize, w: u32, t: u8)
     requires { Framed state.old frame j }
     ensures { state.new ≡ cell_set state.old frame j w t }
 {
-    put_value(
-        state,
-        frame + (CELL_WORDS_AT + WORD_BYTES * j),
-        frame + (CELL_TYPES_AT + j),
-        w,
-        t,
-    );
+    put_in(state, frame, CELLS, j, w, t);
 }
 
 pub fn put_field(state: &mut [u8], r: usize, x: usize, w: u32, t: u8)
     requires { Recorded state.old r x }
     ensures { state.new ≡ field_set state.old r x w t }
 {
-    put_value(
-        state,
-        RECORDS_AT + RECORD_BYTES * r + (FIELD_WORDS_AT + WORD_BYTES * x),
-        RECORDS_AT + RECORD_BYTES * r + (FIELD_TYPES_AT + x),
-        w,
-        t,
-    );
+    put_in(state, record_at(r), FIELDS, x, w, t);
 }
 
 // Onto `depth` operands.
