@@ -4,10 +4,9 @@
 
 mod operators;
 
-ghost use Rattle.std.specs.Prelude.{◌≡◌, ◌+◌, ◌≤◌, IfOk, length};
+ghost use Rattle.std.specs.Prelude.{◌≡◌, length};
 
 use std::io;
-use std::io::Read;
 use values::Condition;
 
 // What a record comes to: the word of a result, or the condition that ends execution in its place; nothing where it asks for no operator.
@@ -45,23 +44,8 @@ fn large_buffer() -> [u8; 65536]
     [0; 65536]
 }
 
-// Reads until `buf` is full or the input ends, and answers how many bytes stand at its front.
-fn read_full(from: &mut impl Read, buf: &mut [u8]) -> io::Result<usize>
-    ensures { IfOk result (λ n. n ≤ length buf.new) }
-{
-    let mut done = 0;
-    while done < buf.len() {
-        let n = from.read(&mut buf[done..])?;
-        if n == 0 {
-            break;
-        }
-        done += n;
-    }
-    Ok(done)
-}
-
 fn main(rt: HostRuntime) -> io::Result<()> {
     let mut buffer = large_buffer();
-    let n = read_full(&mut rt.reader(), &mut buffer)?;
+    let n = reading::read_full(&mut rt.reader(), &mut buffer)?;
     print_all(&rt, &buffer[..n])
 }
