@@ -17,83 +17,54 @@ pub enum Sort {
     Expr,
 }
 
+#[tactic(auto, unfolding(crate::specs::Operands::is_s))]
 pub fn is_statement(kind: u16) -> bool
     ensures { result ≡ is_s kind }
 {
-    match kind {
-        KIND_BLOCK => true,
-        KIND_ASSIGN => true,
-        KIND_IF => true,
-        KIND_IF_ELSE => true,
-        KIND_WHILE => true,
-        KIND_GOTO => true,
-        KIND_ASSERT => true,
-        KIND_CALL => true,
-        KIND_SET => true,
-        KIND_CASE => true,
-        KIND_FOR => true,
-        _ => false,
-    }
+    matches!(
+        kind,
+        KIND_BLOCK | KIND_ASSIGN | KIND_IF | KIND_IF_ELSE | KIND_WHILE | KIND_GOTO | KIND_ASSERT | KIND_CALL
+            | KIND_SET | KIND_CASE | KIND_FOR
+    )
 }
 
+#[tactic(auto, unfolding(crate::specs::Operands::is_e))]
 pub fn is_expression(kind: u16) -> bool
     ensures { result ≡ is_e kind }
 {
-    match kind {
-        KIND_INTEGER => true,
-        KIND_LOGICAL => true,
-        KIND_BITS => true,
-        KIND_NULL => true,
-        KIND_VARIABLE => true,
-        KIND_FUNCTION => true,
-        KIND_FIELD => true,
-        KIND_RECORD => true,
-        KIND_UNARY => true,
-        KIND_BINARY => true,
-        KIND_IF_EXPRESSION => true,
-        KIND_FADER => true,
-        KIND_BLOCK_EXPRESSION => true,
-        _ => false,
-    }
-}
-
-// A function, not `||`, so that a sort's rule is one equation where the arms of the match meet.
-fn either(p: bool, q: bool) -> bool
-    ensures { result ≡ (p || q) }
-{
-    if p { true } else { q }
+    matches!(
+        kind,
+        KIND_INTEGER | KIND_LOGICAL | KIND_BITS | KIND_NULL | KIND_VARIABLE | KIND_FUNCTION | KIND_FIELD
+            | KIND_RECORD | KIND_UNARY | KIND_BINARY | KIND_IF_EXPRESSION | KIND_FADER
+            | KIND_BLOCK_EXPRESSION
+    )
 }
 
 // Which kinds can stand as an operand.
+#[tactic(auto, unfolding(crate::specs::Walk::admits))]
 pub fn admits(sort: Sort, kind: u16) -> bool
     ensures { result ≡ admitted_by sort kind }
 {
     match sort {
         Sort::Typed => kind == KIND_DECLARE,
-        Sort::Decl => either(kind == KIND_DECLARE, kind == KIND_HOLD),
-        Sort::Part => either(kind == KIND_LABEL, is_statement(kind)),
+        Sort::Decl => matches!(kind, KIND_DECLARE | KIND_HOLD),
+        Sort::Part => kind == KIND_LABEL || is_statement(kind),
         Sort::Stmt => is_statement(kind),
-        Sort::Target => either(kind == KIND_VARIABLE, kind == KIND_FIELD),
+        Sort::Target => matches!(kind, KIND_VARIABLE | KIND_FIELD),
         Sort::Expr => is_expression(kind),
     }
 }
 
 // The kinds that have no operands.
+#[tactic(auto, unfolding(crate::specs::Operands::is_leaf))]
 pub fn is_leaf(kind: u16) -> bool
     ensures { result ≡ is_leaf kind }
 {
-    match kind {
-        KIND_DECLARE => true,
-        KIND_HOLD => true,
-        KIND_LABEL => true,
-        KIND_GOTO => true,
-        KIND_INTEGER => true,
-        KIND_LOGICAL => true,
-        KIND_BITS => true,
-        KIND_NULL => true,
-        KIND_VARIABLE => true,
-        _ => false,
-    }
+    matches!(
+        kind,
+        KIND_DECLARE | KIND_HOLD | KIND_LABEL | KIND_GOTO | KIND_INTEGER | KIND_LOGICAL | KIND_BITS
+            | KIND_NULL | KIND_VARIABLE
+    )
 }
 
 // How many operands an entry has; n is how far its b is from 0. Arms that take a from n stand apart, so that each is one sum.

@@ -7,122 +7,74 @@ ghost use Rattle.table_read.specs.Operands.{is_leaf};
 
 use formats::entries::*;
 
-// How far a signed field is from 0. A cast of a negative number is not defined, so it goes by way of 64 bits.
+// How far a signed field is from 0.
 pub fn magnitude(b: i32) -> u32
     ensures { result ≡ nat_abs b }
 {
-    if b < 0 {
-        (0 - (b as i64)) as u32
-    } else {
-        b as u32
-    }
-}
-
-fn natural(b: i32) -> bool
-    ensures { result ≡ is_natural b }
-{
-    b >= 0
-}
-
-// A function, not `&&`, so that a kind's rule is one equation where the arms of the match meet.
-fn both(p: bool, q: bool) -> bool
-    ensures { result ≡ (p && q) }
-{
-    if p { q } else { false }
+    b.unsigned_abs()
 }
 
 fn is_type(n: u32) -> bool
     ensures { result ≡ is_some (ty_of_code n) }
 {
-    match n {
-        1 => true,
-        2 => true,
-        3 => true,
-        _ => { if n < 65536 { false } else { n <= 131071 } }
-    }
+    matches!(n, 1..=3 | 65536..=131071)
 }
 
 fn is_heading(n: u32) -> bool
     ensures { result ≡ is_heading n }
 {
-    both(n / 256 <= 8, n % 256 <= 3)
+    n / 256 <= 8 && n % 256 <= 3
 }
 
+#[tactic(auto, unfolding(values::specs::Operators::unary_of))]
 fn is_unary(a: u16) -> bool
     ensures { result ≡ is_some (unary_of a) }
 {
-    match a {
-        20 => true,
-        21 => true,
-        22 => true,
-        _ => false,
-    }
+    matches!(a, 20..=22)
 }
 
+#[tactic(auto, unfolding(values::specs::Operators::binary_of))]
 fn is_binary(a: u16) -> bool
     ensures { result ≡ is_some (binary_of a) }
 {
-    if a == 0 { false } else { a <= 15 }
+    matches!(a, 1..=15)
 }
 
+#[tactic(auto, unfolding(language::specs::Table::in_layout))]
 pub fn in_layout(kind: u16, a: u16, b: i32) -> bool
     ensures { result ≡ in_layout (entry kind a b) }
 {
-    let whole = natural(b);
-    let n = magnitude(b);
+    let whole = b >= 0;
+    let n = b.unsigned_abs();
     match kind {
-        KIND_BLOCK => whole,
-        KIND_DECLARE => both(whole, is_type(n)),
-        KIND_CLASS => both(whole, both(1 <= n, n <= 8)),
-        KIND_PROCEDURE => both(whole, is_heading(n)),
-        KIND_HOLD => both(a <= 63, n == 0),
-        KIND_LABEL => n == 0,
-        KIND_ASSIGN => both(a == 0, n == 0),
-        KIND_IF => both(a == 0, n == 0),
-        KIND_IF_ELSE => both(a == 0, n == 0),
-        KIND_WHILE => both(a == 0, n == 0),
-        KIND_GOTO => n == 0,
-        KIND_ASSERT => both(a == 0, n == 0),
-        KIND_CALL => whole,
-        KIND_SET => both(a == 0, n == 0),
-        KIND_CASE => both(1 <= a, n == 0),
-        KIND_FOR => n == 0,
-        KIND_INTEGER => a == 0,
-        KIND_LOGICAL => both(a == 0, both(whole, n <= 1)),
-        KIND_BITS => a == 0,
-        KIND_NULL => n == 0,
-        KIND_VARIABLE => n == 0,
-        KIND_FUNCTION => whole,
-        KIND_FIELD => n == 0,
-        KIND_RECORD => whole,
-        KIND_UNARY => both(is_unary(a), n == 0),
-        KIND_BINARY => both(is_binary(a), n == 0),
-        KIND_IF_EXPRESSION => both(a == 0, n == 0),
-        KIND_FADER => both(a == 0, n == 0),
-        KIND_BLOCK_EXPRESSION => whole,
+        KIND_BLOCK | KIND_CALL | KIND_FUNCTION | KIND_RECORD | KIND_BLOCK_EXPRESSION => whole,
+        KIND_DECLARE => whole && is_type(n),
+        KIND_CLASS => 1 <= b && b <= 8,
+        KIND_PROCEDURE => whole && is_heading(n),
+        KIND_HOLD => a <= 63 && b == 0,
+        KIND_LABEL | KIND_GOTO | KIND_FOR | KIND_NULL | KIND_VARIABLE | KIND_FIELD => b == 0,
+        KIND_ASSIGN | KIND_IF | KIND_IF_ELSE | KIND_WHILE | KIND_ASSERT | KIND_SET => a == 0 && b == 0,
+        KIND_CASE => 1 <= a && b == 0,
+        KIND_INTEGER | KIND_BITS => a == 0,
+        KIND_LOGICAL => a == 0 && 0 <= b && b <= 1,
+        KIND_UNARY => is_unary(a) && b == 0,
+        KIND_BINARY => is_binary(a) && b == 0,
+        KIND_IF_EXPRESSION | KIND_FADER => a == 0 && b == 0,
         _ => false,
     }
 }
 
 // The same for an entry with no operands, by few tests.
+#[tactic(auto, unfolding(language::specs::Table::in_layout, crate::specs::Operands::is_leaf))]
 pub fn leaf_layout(kind: u16, a: u16, b: i32) -> bool
     requires { is_leaf kind ≡ true }
     ensures { result ≡ in_layout (entry kind a b) }
 {
-    if kind == KIND_DECLARE {
-        return both(natural(b), is_type(magnitude(b)));
+    match kind {
+        KIND_DECLARE => b >= 0 && is_type(b.unsigned_abs()),
+        KIND_HOLD => a <= 63 && b == 0,
+        KIND_LOGICAL => a == 0 && 0 <= b && b <= 1,
+        KIND_INTEGER | KIND_BITS => a == 0,
+        _ => b == 0,
     }
-    if kind == KIND_HOLD {
-        return both(a <= 63, magnitude(b) == 0);
-    }
-    if kind == KIND_LOGICAL {
-        return both(a == 0, both(natural(b), magnitude(b) <= 1));
-    }
-    if kind == KIND_INTEGER {
-        return a == 0;
-    }
-    if kind == KIND_BITS {
-        return a == 0;
-    }
-    magnitude(b) == 0
 }
