@@ -29,7 +29,11 @@ pub fn alone(kind: u16) -> Used
     match kind {
         KIND_DECLARE => Used { cells: 1, ..ONE },
         KIND_HOLD => Used { holds: 1, ..ONE },
-        KIND_CASE => Used { need: 2, cells: 1, ..ONE },
+        KIND_CASE => Used {
+            need: 2,
+            cells: 1,
+            ..ONE
+        },
         KIND_FOR => Used { cells: 3, ..ONE },
         _ => ONE,
     }
@@ -42,7 +46,13 @@ pub fn weight(kind: u16, i: usize) -> usize
     ensures { result ≡ weight_of kind i }
 {
     match kind {
-        KIND_ASSIGN | KIND_CALL | KIND_SET | KIND_FUNCTION | KIND_RECORD | KIND_BINARY | KIND_IF_EXPRESSION => i,
+        KIND_ASSIGN
+        | KIND_CALL
+        | KIND_SET
+        | KIND_FUNCTION
+        | KIND_RECORD
+        | KIND_BINARY
+        | KIND_IF_EXPRESSION => i,
         KIND_FOR => if i == 3 { 0 } else { i },
         _ => 0,
     }

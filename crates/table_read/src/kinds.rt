@@ -23,8 +23,17 @@ pub fn is_statement(kind: u16) -> bool
 {
     matches!(
         kind,
-        KIND_BLOCK | KIND_ASSIGN | KIND_IF | KIND_IF_ELSE | KIND_WHILE | KIND_GOTO | KIND_ASSERT | KIND_CALL
-            | KIND_SET | KIND_CASE | KIND_FOR
+        KIND_BLOCK
+            | KIND_ASSIGN
+            | KIND_IF
+            | KIND_IF_ELSE
+            | KIND_WHILE
+            | KIND_GOTO
+            | KIND_ASSERT
+            | KIND_CALL
+            | KIND_SET
+            | KIND_CASE
+            | KIND_FOR
     )
 }
 
@@ -34,8 +43,18 @@ pub fn is_expression(kind: u16) -> bool
 {
     matches!(
         kind,
-        KIND_INTEGER | KIND_LOGICAL | KIND_BITS | KIND_NULL | KIND_VARIABLE | KIND_FUNCTION | KIND_FIELD
-            | KIND_RECORD | KIND_UNARY | KIND_BINARY | KIND_IF_EXPRESSION | KIND_FADER
+        KIND_INTEGER
+            | KIND_LOGICAL
+            | KIND_BITS
+            | KIND_NULL
+            | KIND_VARIABLE
+            | KIND_FUNCTION
+            | KIND_FIELD
+            | KIND_RECORD
+            | KIND_UNARY
+            | KIND_BINARY
+            | KIND_IF_EXPRESSION
+            | KIND_FADER
             | KIND_BLOCK_EXPRESSION
     )
 }
@@ -62,35 +81,32 @@ pub fn is_leaf(kind: u16) -> bool
 {
     matches!(
         kind,
-        KIND_DECLARE | KIND_HOLD | KIND_LABEL | KIND_GOTO | KIND_INTEGER | KIND_LOGICAL | KIND_BITS
-            | KIND_NULL | KIND_VARIABLE
+        KIND_DECLARE
+            | KIND_HOLD
+            | KIND_LABEL
+            | KIND_GOTO
+            | KIND_INTEGER
+            | KIND_LOGICAL
+            | KIND_BITS
+            | KIND_NULL
+            | KIND_VARIABLE
     )
 }
 
-// How many operands an entry has; n is how far its b is from 0. Arms that take a from n stand apart, so that each is one sum.
+// How many operands an entry has; n is how far its b is from 0.
+#[tactic(auto, unfolding(crate::specs::Operands::sorts))]
 pub fn count(kind: u16, a: u16, n: u32) -> usize
     ensures { result ≡ length (sorts kind a n) }
 {
     match kind {
         KIND_BLOCK => a as usize + n as usize,
-        KIND_CLASS => n as usize,
+        KIND_CLASS | KIND_CALL | KIND_FUNCTION | KIND_RECORD => n as usize,
         KIND_PROCEDURE => n as usize / 256 + 1,
-        KIND_ASSIGN => 2,
-        KIND_IF => 2,
-        KIND_IF_ELSE => 3,
-        KIND_WHILE => 2,
-        KIND_ASSERT => 1,
-        KIND_CALL => n as usize,
-        KIND_SET => 2,
+        KIND_ASSIGN | KIND_IF | KIND_WHILE | KIND_SET | KIND_BINARY => 2,
+        KIND_IF_ELSE | KIND_IF_EXPRESSION => 3,
+        KIND_ASSERT | KIND_FIELD | KIND_UNARY | KIND_FADER => 1,
         KIND_CASE => a as usize + 1,
         KIND_FOR => 4,
-        KIND_FUNCTION => n as usize,
-        KIND_FIELD => 1,
-        KIND_RECORD => n as usize,
-        KIND_UNARY => 1,
-        KIND_BINARY => 2,
-        KIND_IF_EXPRESSION => 3,
-        KIND_FADER => 1,
         KIND_BLOCK_EXPRESSION => a as usize + n as usize + 1,
         _ => 0,
     }

@@ -53,7 +53,8 @@ pub fn in_layout(kind: u16, a: u16, b: i32) -> bool
         KIND_PROCEDURE => whole && is_heading(n),
         KIND_HOLD => a <= 63 && b == 0,
         KIND_LABEL | KIND_GOTO | KIND_FOR | KIND_NULL | KIND_VARIABLE | KIND_FIELD => b == 0,
-        KIND_ASSIGN | KIND_IF | KIND_IF_ELSE | KIND_WHILE | KIND_ASSERT | KIND_SET => a == 0 && b == 0,
+        KIND_ASSIGN | KIND_IF | KIND_IF_ELSE | KIND_WHILE | KIND_ASSERT | KIND_SET => a == 0
+            && b == 0,
         KIND_CASE => 1 <= a && b == 0,
         KIND_INTEGER | KIND_BITS => a == 0,
         KIND_LOGICAL => a == 0 && 0 <= b && b <= 1,

@@ -134,12 +134,7 @@ fn operands(
 
 // The entry there with all that stands below it; so much nesting is left for its operands. One with no operands is answered without a call.
 #[cycle(operands_read_entry)]
-fn read_entry(
-    part: &[u8],
-    place: usize,
-    sizes: &mut [u16],
-    nesting: usize,
-) -> Result<usize, usize>
+fn read_entry(part: &[u8], place: usize, sizes: &mut [u16], nesting: usize) -> Result<usize, usize>
     requires { (8 ≤ length part.now) × Room part.now place sizes.old }
     ensures { (result ≡ placed place (under (walk nesting) (entries_of part.now)))
         × Fills (entries_of part.now) place sizes.old sizes.new result }
@@ -162,14 +157,14 @@ fn read_entry(
 
 // ── the root ──
 // At most 16 classes and 63 procedures.
+#[tactic(auto, unfolding(crate::specs::Walk::is_global))]
 fn is_global(kind: u16, classes: usize, procedures: usize) -> bool
     ensures { result ≡ is_global classes procedures kind }
 {
     match kind {
         KIND_CLASS => classes < MAX_CLASSES,
         KIND_PROCEDURE => procedures < MAX_PROCEDURES,
-        KIND_DECLARE => true,
-        KIND_HOLD => true,
+        KIND_DECLARE | KIND_HOLD => true,
         _ => false,
     }
 }
@@ -197,7 +192,7 @@ fn read_global(
 pub fn tally(kind: u16, of: u16) -> usize
     ensures { result ≡ tally_of kind of }
 {
-    if kind == of { 1 } else { 0 }
+    usize::from(kind == of)
 }
 
 // The declarations of the root's head, which begin at place 1.
@@ -253,12 +248,18 @@ pub fn read_table(table: &[u8], sizes: &mut [u16]) -> Result<(), Fault>
 {
     let bytes = table.len();
     if bytes == 0 || MAX_TABLE_BYTES < bytes || bytes % ENTRY_BYTES != 0 {
-        return Err(Fault { number: 1, place: 0 });
+        return Err(Fault {
+            number: 1,
+            place: 0,
+        });
     }
     let n = read_root(table, sizes).map_err(|place| Fault { number: 2, place })?;
     if n == bytes / ENTRY_BYTES {
         Ok(())
     } else {
-        Err(Fault { number: 2, place: n })
+        Err(Fault {
+            number: 2,
+            place: n,
+        })
     }
 }

@@ -1,6 +1,6 @@
 -- `table_limits::root_items` meets its contract.
-use Prim.Native.Nat.{◌-◌, ◌*◌, ◌<◌}
-use mathlib.Core.Path.{◌≡◌, refl, sym, ◌∙◌}
+use Prim.Native.Nat.{◌*◌, ◌<◌}
+use mathlib.Core.Path.{refl, sym, ◌∙◌}
 use native.Mathlib.Omega.{arith}
 use lib.ListN.{length-drop}
 use Rattle.language_laws.specs.Claims.{entries_of}

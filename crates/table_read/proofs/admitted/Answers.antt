@@ -5,22 +5,11 @@ use mir.ValLaws.{to_z-of_z}
 use Rattle.language_laws.specs.Claims.{entries_of}
 use Rattle.table_entries.specs.Entries.{entries-some}
 use Rattle.table_read.specs.Walk.{kind_at, laid_at, admits}
-use Rattle.table_read.proofs.Steps.{admitted-none, admitted-other, admitted-laid}
+use Rattle.table_read.proofs.Steps.{admitted-none, admitted-laid}
 use Rattle.table_read.proofs.admitted.Goals as goal
-
-pub returns-then-nesting-eq0 : goal.returns-then-nesting-eq0
-returns-then-nesting-eq0 c = rw c.if-nesting-eq0.true
 
 pub returns-then-part-lt-ENTRY_BYTES : goal.returns-then-part-lt-ENTRY_BYTES
 returns-then-part-lt-ENTRY_BYTES c = admitted-none c.args.nesting c.args.sort c.args.part.now c.if-part-lt-ENTRY_BYTES.true
-
-pub returns-then-not-admits : goal.returns-then-not-admits
-returns-then-not-admits c =
-    admitted-other c.args.nesting c.args.sort (entries_of c.args.part.now)
-    (ap (admits c.args.sort) (sym c.kind_of-kind.ensures) ∙ sym c.admits.ensures ∙ c.if-not-admits.true)
-
-pub leaf_layout-requires : goal.leaf_layout-requires
-leaf_layout-requires c = sym c.is_leaf.ensures ∙ c.if-is_leaf.true
 
 pub returns-then-is_leaf : goal.returns-then-is_leaf
 returns-then-is_leaf c =

@@ -9,7 +9,7 @@ use Rattle.language_laws.specs.Claims.{entries_of}
 use Rattle.table_entries.specs.Entries.{entries-rest, rest as back}
 use Rattle.table_entries.specs.Sizes.{Sized, sized-then}
 use Rattle.table_read.specs.Operands.{sorts}
-use Rattle.table_read.specs.Walk.{moved, placed, chain, walk, walk_head, walk_below}
+use Rattle.table_read.specs.Walk.{moved, placed, chain, walk, walk_head}
 use Rattle.table_read.proofs.Steps.{placed-ok, stop-moved, chain_fits}
 use Rattle.table_read.proofs.Roots.{head-fits, walk-below-stop, walk-below-whole}
 use Rattle.table_read.proofs.below_root.Goals as goal
