@@ -51,15 +51,25 @@ pub fn no_type(classes: usize, byte: usize) -> bool
     classes <= byte - wide::TYPE_CLASS
 }
 
+// A macro's bytes, with the numbers of classes and of instructions that its head tells.
+#[derive(Clone, Copy)]
+struct Headed<'a> {
+    code: &'a [u8],
+    classes: usize,
+    instructions: usize,
+    ghost of_classes: { classes ≡ class_count code.now },
+    ghost of_code: { instructions ≡ count code.now },
+}
+
 // Whether one of so many bytes from the place is no type. The loop does not leave at the first: it is short, and goes on without a branch.
-fn bad_types(code: &[u8], place: usize, size: usize, classes: usize) -> bool
-    requires { (place + size ≤ length code.now) × (classes ≡ class_count code.now) }
-    ensures { result ≡ bad_types code.now place size }
+fn bad_types(of: &Headed, place: usize, size: usize) -> bool
+    requires { place + size ≤ length of.now.code.now }
+    ensures { result ≡ bad_types of.now.code.now place size }
 {
     let mut bad = size;
     for i in (0..size).rev() {
         bad = pick(
-            no_type(classes, words::wide::byte_at(code, place + i)),
+            no_type(of.classes, words::wide::byte_at(of.code, place + i)),
             i,
             bad,
         );
@@ -88,18 +98,11 @@ pub fn bad_head(code: &[u8]) -> bool
 }
 
 // Whether a record of that size with the mark x, y stands at the place, and after it as many types as its byte at `counts` says.
-fn typed_fits(
-    code: &[u8],
-    place: usize,
-    size: usize,
-    counts: usize,
-    x: u8,
-    y: u8,
-    classes: usize,
-) -> bool
-    requires { (place < 4294967296) × (2 ≤ size) × (size < 256) × (counts < size) × (classes ≡ class_count code.now) }
-    ensures { result ≡ typed_fits code.now place size counts x y }
+fn typed_fits(of: &Headed, place: usize, size: usize, counts: usize, x: u8, y: u8) -> bool
+    requires { (place < 4294967296) × (2 ≤ size) × (size < 256) × (counts < size) }
+    ensures { result ≡ typed_fits of.now.code.now place size counts x y }
 {
+    let code = of.code;
     if no_mark(code, place, size, x, y) {
         return false;
     }
@@ -107,26 +110,18 @@ fn typed_fits(
     if code.len() < place + size + types {
         return false;
     }
-    !bad_types(code, place + size, types, classes)
+    !bad_types(of, place + size, types)
 }
 
 // Whether the class whose record stands at the place is bad.
-fn bad_class(code: &[u8], place: usize, classes: usize) -> bool
-    requires { (place < 4294967296) × (classes ≡ class_count code.now) }
-    ensures { (k : ℕ) → place ≡ class_place code.now k → result ≡ bad_class code.now k }
+fn bad_class(of: &Headed, place: usize) -> bool
+    requires { place < 4294967296 }
+    ensures { (k : ℕ) → place ≡ class_place of.now.code.now k → result ≡ bad_class of.now.code.now k }
 {
-    if !typed_fits(
-        code,
-        place,
-        CLASS_BYTES,
-        FIELD_COUNT_AT,
-        b'C',
-        b'L',
-        classes,
-    ) {
+    if !typed_fits(of, place, CLASS_BYTES, FIELD_COUNT_AT, b'C', b'L') {
         return true;
     }
-    let fields = words::wide::byte_at(code, place + FIELD_COUNT_AT);
+    let fields = words::wide::byte_at(of.code, place + FIELD_COUNT_AT);
     if fields < 1 {
         return true;
     }
@@ -144,21 +139,22 @@ fn result_fits(classes: usize, byte: usize) -> bool
 }
 
 // A body's record, all but that its first address rises.
-fn body_fits(code: &[u8], place: usize, classes: usize, instructions: usize) -> bool
-    requires { (place < 4294967296) × (classes ≡ class_count code.now) × (instructions ≡ count code.now) }
-    ensures { result ≡ body_fits code.now place }
+fn body_fits(of: &Headed, place: usize) -> bool
+    requires { place < 4294967296 }
+    ensures { result ≡ body_fits of.now.code.now place }
 {
-    if !typed_fits(code, place, BODY_BYTES, CELL_COUNT_AT, b'B', b'D', classes) {
+    let code = of.code;
+    if !typed_fits(of, place, BODY_BYTES, CELL_COUNT_AT, b'B', b'D') {
         return false;
     }
-    if !result_fits(classes, words::wide::byte_at(code, place + RESULT_AT)) {
+    if !result_fits(of.classes, words::wide::byte_at(code, place + RESULT_AT)) {
         return false;
     }
     let cells = words::wide::byte_at(code, place + CELL_COUNT_AT);
     if cells < words::wide::byte_at(code, place + PARAMETER_COUNT_AT) {
         return false;
     }
-    words::wide::half_at(code, place + FIRST_AT) < instructions
+    words::wide::half_at(code, place + FIRST_AT) < of.instructions
 }
 
 fn rises_from(k: usize, last: usize, address: usize) -> bool
@@ -171,22 +167,14 @@ fn rises_from(k: usize, last: usize, address: usize) -> bool
 }
 
 // A shape's record, all but that its address rises.
-fn shape_fits(code: &[u8], place: usize, classes: usize, instructions: usize) -> bool
-    requires { (place < 4294967296) × (classes ≡ class_count code.now) × (instructions ≡ count code.now) }
-    ensures { result ≡ shape_fits code.now place }
+fn shape_fits(of: &Headed, place: usize) -> bool
+    requires { place < 4294967296 }
+    ensures { result ≡ shape_fits of.now.code.now place }
 {
-    if !typed_fits(
-        code,
-        place,
-        SHAPE_BYTES,
-        SHAPE_DEPTH_AT,
-        b'S',
-        b'H',
-        classes,
-    ) {
+    if !typed_fits(of, place, SHAPE_BYTES, SHAPE_DEPTH_AT, b'S', b'H') {
         return false;
     }
-    words::wide::half_at(code, place + SHAPE_ADDRESS_AT) < instructions
+    words::wide::half_at(of.code, place + SHAPE_ADDRESS_AT) < of.instructions
 }
 
 fn read_end(code: &[u8], place: usize, index: usize) -> Result<(), usize>
@@ -206,15 +194,16 @@ fn read_end(code: &[u8], place: usize, index: usize) -> Result<(), usize>
 // Each pass over the records of a kind answers the place behind the last of them, or how many read before the first that does not.
 //
 // The classes; their places go to the index.
-fn classes_pass(code: &[u8], classes: &mut [u32], total: usize) -> Result<usize, usize>
-    requires { (total ≡ class_count code.now) × (total ≤ 16) × (16 ≤ length classes.old) }
-    ensures passes { Passes (bad_class code.now) (class_place code.now) total result }
+fn classes_pass(of: &Headed, classes: &mut [u32]) -> Result<usize, usize>
+    requires { (of.now.classes ≤ 16) × (16 ≤ length classes.old) }
+    ensures passes { Passes (bad_class of.now.code.now) (class_place of.now.code.now) of.now.classes result }
     ensures within { IfOk result (λ p. p < 8192) }
-    ensures placed { IfOk result (λ p. Placed (class_place code.now) classes.new total) }
+    ensures placed { IfOk result (λ p. Placed (class_place of.now.code.now) classes.new of.now.classes) }
 {
+    let code = of.code;
     let mut p: usize = HEAD_BYTES;
-    for k in 0..total {
-        if bad_class(code, p, total) {
+    for k in 0..of.classes {
+        if bad_class(of, p) {
             return Err(k);
         }
         classes[k] = p as u32;
@@ -224,23 +213,17 @@ fn classes_pass(code: &[u8], classes: &mut [u32], total: usize) -> Result<usize,
 }
 
 // The bodies, from the first one's place; their places go to the index.
-fn bodies_pass(
-    code: &[u8],
-    bodies: &mut [u32],
-    from: usize,
-    classes: usize,
-    instructions: usize,
-    total: usize,
-) -> Result<usize, usize>
-    requires { (from ≡ body_place code.now 0) × (from < 8192) × (classes ≡ class_count code.now) × (instructions ≡ count code.now) × (total ≤ 64) × (64 ≤ length bodies.old) }
-    ensures passes { Passes (bad_body code.now) (body_place code.now) total result }
+fn bodies_pass(of: &Headed, bodies: &mut [u32], from: usize, total: usize) -> Result<usize, usize>
+    requires { (from ≡ body_place of.now.code.now 0) × (from < 8192) × (total ≤ 64) × (64 ≤ length bodies.old) }
+    ensures passes { Passes (bad_body of.now.code.now) (body_place of.now.code.now) total result }
     ensures within { IfOk result (λ p. p < 65536) }
-    ensures placed { IfOk result (λ p. Placed (body_place code.now) bodies.new total) }
+    ensures placed { IfOk result (λ p. Placed (body_place of.now.code.now) bodies.new total) }
 {
+    let code = of.code;
     let mut p: usize = from;
     let mut last: usize = 0;
     for k in 0..total {
-        if !body_fits(code, p, classes, instructions) {
+        if !body_fits(of, p) {
             return Err(k);
         }
         let a = words::wide::half_at(code, p + FIRST_AT);
@@ -296,24 +279,18 @@ fn note_shape(shapes: &mut [u32], least: usize, address: usize, place: usize)
 }
 
 // The shapes, from the first one's place.
-fn shapes_pass(
-    code: &[u8],
-    shapes: &mut [u32],
-    from: usize,
-    classes: usize,
-    instructions: usize,
-    total: usize,
-) -> Result<usize, usize>
-    requires { (from ≡ shape_place code.now 0) × (from < 1000000) × (classes ≡ class_count code.now) × (instructions ≡ count code.now)
-        × (total < 65536) × (instructions ≤ 8 * length shapes.old) × (Indexed code.now shapes.old instructions 0) }
-    ensures passes { Passes (bad_shape code.now) (shape_place code.now) total result }
+fn shapes_pass(of: &Headed, shapes: &mut [u32], from: usize, total: usize) -> Result<usize, usize>
+    requires { (from ≡ shape_place of.now.code.now 0) × (from < 1000000) × (total < 65536) × (of.now.instructions ≤ 8 * length shapes.old)
+        × (Indexed of.now.code.now shapes.old of.now.instructions 0) }
+    ensures passes { Passes (bad_shape of.now.code.now) (shape_place of.now.code.now) total result }
     ensures within { IfOk result (λ p. p < 4294967296) }
-    ensures indexed { IfOk result (λ p. Indexed code.now shapes.new instructions total) }
+    ensures indexed { IfOk result (λ p. Indexed of.now.code.now shapes.new of.now.instructions total) }
 {
+    let code = of.code;
     let mut p: usize = from;
     let mut least: usize = 0;
     for k in 0..total {
-        if !shape_fits(code, p, classes, instructions) {
+        if !shape_fits(of, p) {
             return Err(k);
         }
         let a = words::wide::half_at(code, p + SHAPE_ADDRESS_AT);
@@ -343,30 +320,19 @@ pub fn scan(
     let class_count = words::wide::byte_at(code, CLASS_COUNT_AT);
     let body_count = words::wide::byte_at(code, BODY_COUNT_AT);
     let shape_count = words::wide::half_at(code, SHAPE_COUNT_AT);
-    let bodies_from = classes_pass(code, classes, class_count).map_err(|k| 1 + k)?;
-    let before_bodies = 1 + class_count;
-    let base = bodies_pass(
+    let of = Headed {
         code,
-        bodies,
-        bodies_from,
-        class_count,
+        classes: class_count,
         instructions,
-        body_count,
-    )
-    .map_err(|k| before_bodies + k)?;
+    };
+    let bodies_from = classes_pass(&of, classes).map_err(|k| 1 + k)?;
+    let before_bodies = 1 + class_count;
+    let base = bodies_pass(&of, bodies, bodies_from, body_count).map_err(|k| before_bodies + k)?;
     let before_code = before_bodies + body_count;
     code_pass(code, base, instructions).map_err(|k| before_code + k)?;
     let shapes_from = base + CODE_BYTES * instructions;
     let before_shapes = before_code + instructions;
-    let end = shapes_pass(
-        code,
-        shapes,
-        shapes_from,
-        class_count,
-        instructions,
-        shape_count,
-    )
-    .map_err(|k| before_shapes + k)?;
+    let end = shapes_pass(&of, shapes, shapes_from, shape_count).map_err(|k| before_shapes + k)?;
     read_end(code, end, before_shapes + shape_count)?;
     Ok(base)
 }

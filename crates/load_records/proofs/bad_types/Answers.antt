@@ -13,4 +13,4 @@ loop-i-preserved c =
     c.pick-bad.ensures ∙ rw (c.no_type.ensures, c.byte_at.ensures.0) (seek-down _ _ _ _ (omega arith) (omega arith) c.loop-i.invariant)
 
 pub returns : goal.returns
-returns c = law.types-passed _ _ _ _ _ c.requires.1 (seek-whole _ _ _ _ (omega arith) c.loop-i.invariant)
+returns c = law.types-passed _ _ _ _ _ c.args.of.now.of_classes (seek-whole _ _ _ _ (omega arith) c.loop-i.invariant)

@@ -6,4 +6,4 @@ use Rattle.load_places.specs.Records.{no_type}
 use Rattle.load_records.proofs.bad_types.Given as goal
 
 abbrev pub invariant-loop-i : goal.invariant-loop-i
-invariant-loop-i l = (l.bad ≡ seek (λ k. no_type l.classes (byte_at l.code (l.place + k))) (l.size - l.i) l.i)
+invariant-loop-i l = (l.bad ≡ seek (λ k. no_type l.of.classes (byte_at l.of.code.now (l.place + k))) (l.size - l.i) l.i)

@@ -33,7 +33,7 @@ loop-k-preserved c =
       omega arith,
       law.last-first _ _ _ _ I.0.stands c.half_at-a.ensures.0,
       simp length-set I.3,
-      law.placed-more (body_place c.args.code.now) loop.bodies loop.k loop.p I.0.stands (omega arith) I.4,
+      law.placed-more (body_place c.args.of.now.code.now) loop.bodies loop.k loop.p I.0.stands (omega arith) I.4,
     )
 
 pub returns-clause-passes : goal.returns-clause-passes

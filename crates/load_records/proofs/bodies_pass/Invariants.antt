@@ -7,5 +7,5 @@ use Rattle.load_records.specs.Answer.{Upto}
 use Rattle.load_records.proofs.bodies_pass.Given as goal
 
 abbrev pub invariant-loop-k : goal.invariant-loop-k
-invariant-loop-k l = Upto (bad_body l.code) (body_place l.code) l.total l.k l.p × (l.p ≤ 8192 + 262 * l.k) × (0 < l.k → l.last ≡ first_of l.code (l.k - 1))
-    × (length l.bodies ≡ length l.initial.bodies) × Placed (body_place l.code) l.bodies l.k
+invariant-loop-k l = Upto (bad_body l.of.code.now) (body_place l.of.code.now) l.total l.k l.p × (l.p ≤ 8192 + 262 * l.k) × (0 < l.k → l.last ≡ first_of l.of.code.now (l.k - 1))
+    × (length l.bodies ≡ length l.initial.bodies) × Placed (body_place l.of.code.now) l.bodies l.k

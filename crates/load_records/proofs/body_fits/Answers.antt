@@ -13,7 +13,7 @@ byte_at-requires c = let h = law.typed-room _ _ _ _ _ _ (sym c.typed_fits.ensure
 pub returns-then-not-result_fits : goal.returns-then-not-result_fits
 returns-then-not-result_fits c =
     sym (law.body-2 _ _ (sym c.typed_fits.ensures ∙ c.if-not-typed_fits.false)
-    (rw (c.byte_at.ensures.0, c.requires.1) at (sym c.result_fits.ensures ∙ c.if-not-result_fits.true)))
+    (rw (c.byte_at.ensures.0, c.args.of.now.of_classes) at (sym c.result_fits.ensures ∙ c.if-not-result_fits.true)))
 
 pub byte_at-cells-requires : goal.byte_at-cells-requires
 byte_at-cells-requires c = let h = law.typed-room _ _ _ _ _ _ (sym c.typed_fits.ensures ∙ c.if-not-typed_fits.false) in omega arith
@@ -24,12 +24,12 @@ byte_at-requires-2 c = let h = law.typed-room _ _ _ _ _ _ (sym c.typed_fits.ensu
 pub returns-then-cells-byte_at : goal.returns-then-cells-byte_at
 returns-then-cells-byte_at c =
     sym (law.body-3 _ _ (sym c.typed_fits.ensures ∙ c.if-not-typed_fits.false)
-    (rw (c.byte_at.ensures.0, c.requires.1) at (sym c.result_fits.ensures ∙ c.if-not-result_fits.false)) (omega arith))
+    (rw (c.byte_at.ensures.0, c.args.of.now.of_classes) at (sym c.result_fits.ensures ∙ c.if-not-result_fits.false)) (omega arith))
 
 pub half_at-requires : goal.half_at-requires
 half_at-requires c = let h = law.typed-room _ _ _ _ _ _ (sym c.typed_fits.ensures ∙ c.if-not-typed_fits.false) in omega arith
 
 pub returns : goal.returns
 returns c =
-    rw (c.half_at.ensures.0, c.requires.2) (sym (law.body-4 _ _ (sym c.typed_fits.ensures ∙ c.if-not-typed_fits.false)
-    (rw (c.byte_at.ensures.0, c.requires.1) at (sym c.result_fits.ensures ∙ c.if-not-result_fits.false)) (omega arith)))
+    rw (c.half_at.ensures.0, c.args.of.now.of_code) (sym (law.body-4 _ _ (sym c.typed_fits.ensures ∙ c.if-not-typed_fits.false)
+    (rw (c.byte_at.ensures.0, c.args.of.now.of_classes) at (sym c.result_fits.ensures ∙ c.if-not-result_fits.false)) (omega arith)))

@@ -28,7 +28,7 @@ loop-k-preserved c =
       law.goes-on I.0 _ (omega arith) (sym (c.bad_class.ensures _ I.0.stands) ∙ c.if-bad_class.false) (law.next-class _ _ _ _ I.0.stands c.byte_at.ensures.0),
       omega arith,
       simp length-set I.2,
-      law.placed-more (class_place c.args.code.now) loop.classes loop.k loop.p I.0.stands (omega arith) I.3,
+      law.placed-more (class_place c.args.of.now.code.now) loop.classes loop.k loop.p I.0.stands (omega arith) I.3,
     )
 
 pub returns-clause-passes : goal.returns-clause-passes

@@ -18,7 +18,7 @@ half_at-shape_count-requires c = omega (arith, head-known _ c.requires.0)
 
 pub classes_pass-requires : goal.classes_pass-requires
 classes_pass-requires c =
-    (c.byte_at-class_count.ensures.0, omega (arith, head-known _ c.requires.0, c.byte_at-class_count.ensures.0), c.requires.4)
+    (omega (arith, head-known _ c.requires.0, c.byte_at-class_count.ensures.0), c.requires.4)
 
 pub returns-in_err-bodies_from : goal.returns-in_err-bodies_from
 returns-in_err-bodies_from c =
@@ -33,8 +33,6 @@ bodies_pass-requires c =
     let C = rw (law.told-ok c.classes_pass.result _ c.in_ok-bodies_from.ensures.cases) at c.classes_pass.ensures in (
       law.body-start _ C.passes c.byte_at-class_count.ensures.0,
       C.within,
-      c.byte_at-class_count.ensures.0,
-      c.requires.1,
       omega (arith, head-known _ c.requires.0, c.byte_at-body_count.ensures.0),
       c.requires.3,
     )
@@ -64,8 +62,6 @@ shapes_pass-requires c =
     let B = rw (law.told-ok c.bodies_pass.result _ c.in_ok-base.ensures.cases) at c.bodies_pass.ensures in (
       law.shape-start _ _ _ c.requires.1 (law.code-start _ B.passes c.byte_at-body_count.ensures.0),
       omega (arith, B.within, c.requires.1, (c.type_inv.code 4).fits, (c.type_inv.code 5).fits),
-      c.byte_at-class_count.ensures.0,
-      c.requires.1,
       c.half_at-shape_count.ensures.1,
       c.requires.2,
       c.requires.5,

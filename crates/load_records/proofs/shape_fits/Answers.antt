@@ -11,4 +11,4 @@ pub half_at-requires : goal.half_at-requires
 half_at-requires c = let h = law.typed-room _ _ _ _ _ _ (sym c.typed_fits.ensures ∙ c.if-not-typed_fits.false) in omega arith
 
 pub returns : goal.returns
-returns c = rw (c.half_at.ensures.0, c.requires.2) (sym (law.shape-2 _ _ (sym c.typed_fits.ensures ∙ c.if-not-typed_fits.false)))
+returns c = rw (c.half_at.ensures.0, c.args.of.now.of_code) (sym (law.shape-2 _ _ (sym c.typed_fits.ensures ∙ c.if-not-typed_fits.false)))

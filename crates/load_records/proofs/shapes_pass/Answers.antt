@@ -7,7 +7,7 @@ use Rattle.load_records.proofs.Passing as law
 use Rattle.load_records.proofs.shapes_pass.Goals as goal
 
 pub loop-k-init : goal.loop-k-init
-loop-k-init c = (law.starts _ c.requires.0, omega arith, law.least_first _, refl, c.requires.6)
+loop-k-init c = (law.starts _ c.requires.0, omega arith, law.least_first _, refl, c.requires.4)
 
 pub returns-then-not-shape_fits-clause-passes : goal.returns-then-not-shape_fits-clause-passes
 returns-then-not-shape_fits-clause-passes c =
@@ -41,8 +41,8 @@ loop-k-preserved c =
       omega arith,
       law.next-least _ _ _ I.0.stands _ c.half_at-a.ensures.0,
       c.note_shape.auto.shapes ∙ I.3,
-      rw c.note_shape.ensures (law.indexed-more c.args.code.now loop.k loop.p I.0.stands loop.least c.half_at-a.result
-          I.2 c.half_at-a.ensures.0 z loop.shapes c.args.instructions (omega (arith, I.3)) I.4),
+      rw c.note_shape.ensures (law.indexed-more c.args.of.now.code.now loop.k loop.p I.0.stands loop.least c.half_at-a.result
+          I.2 c.half_at-a.ensures.0 z loop.shapes c.args.of.now.instructions (omega (arith, I.3)) I.4),
     )
 
 pub returns-clause-passes : goal.returns-clause-passes

@@ -7,5 +7,5 @@ use Rattle.load_records.specs.Answer.{Upto}
 use Rattle.load_records.proofs.shapes_pass.Given as goal
 
 abbrev pub invariant-loop-k : goal.invariant-loop-k
-invariant-loop-k l = Upto (bad_shape l.code) (shape_place l.code) l.total l.k l.p × (l.p ≤ 1000000 + 261 * l.k) × (l.least ≡ least l.code l.k)
-    × (length l.shapes ≡ length l.initial.shapes) × Indexed l.code l.shapes l.instructions l.k
+invariant-loop-k l = Upto (bad_shape l.of.code.now) (shape_place l.of.code.now) l.total l.k l.p × (l.p ≤ 1000000 + 261 * l.k) × (l.least ≡ least l.of.code.now l.k)
+    × (length l.shapes ≡ length l.initial.shapes) × Indexed l.of.code.now l.shapes l.of.instructions l.k
