@@ -1,10 +1,8 @@
 -- Null, and the ops that load and store a cell: at each exit, what was tested gives what the definition gives.
 use mathlib.Core.Path.{◌≡◌}
-use mathlib.Core.Bool.{Bool, true, false, cond}
 use mathlib.Core.List.{List}
 use Prim.Native.Nat.{ℕ, ◌+◌, ◌<◌, ◌≤◌}
 use Rattle.std.specs.Prelude.{Option, Some, None}
-use lib.Dec.{eqb}
 use borrow.Author.Tests.{eq-eqb, lt-ltb, le-ltb}
 use Rattle.words.specs.Numbers.{byte_at}
 use Rattle.load_places.specs.Records.{classes, body_place}
