@@ -66,7 +66,8 @@ fn search_shape(code: &[u8], from: usize, address: usize) -> Option<usize>
     None
 }
 
-// In the index 0 stands for a group without a shape: no record stands at the head's place.
+// Kept (point 1): in the index 0 stands for a group without a shape, as no record stands at the head's place. An index of Options takes twice its 32 KB,
+// more than the stack that include/desk.h names.
 pub fn shape_at(code: &[u8], shapes: &[u32], address: usize) -> Option<usize>
     requires { (Shaped code.now shapes.now) × (address < count code.now) }
     ensures { ShapeFound code.now address result }
