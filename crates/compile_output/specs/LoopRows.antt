@@ -7,22 +7,28 @@ use Rattle.bytecode.specs.Macro.{Shape}
 use Rattle.compile_code.specs.Compile.{code_stored, code_downward, code_upward, code_once, code_entered, code_turned}
 use Rattle.compile_code.specs.Encode.{record_of}
 use Rattle.compile_output.specs.declared.Cursor.{Cursor}
+use Rattle.compile_output.specs.declared.loops.Row.{Row}
+use Rattle.compile_output.specs.declared.loops.Row.TheVariants.{Op, Mark}
+use Rattle.compile_output.specs.declared.loops.Operand.TheVariants.{Number, Cell, Here, Exit}
 use Rattle.compile_output.specs.EmitCode.{Stacked, cursor_after, emitted}
 use Rattle.compile_output.specs.Rows.{cursor_rows, emit_rows}
 
--- as `ENTERED` and `TURNED` in src/loops.rt come to them
-abbrev pub entered_rows : List ℕ
+-- as `ENTERED` and `TURNED` in src/loops.rt
+abbrev pub entered_rows : List Row
 entered_rows =
-    100663554 ∷ 100663553 ∷ 100663552 ∷ 83886337 ∷ 16777216 ∷ 118095872 ∷ 150995464 ∷ 337379328 ∷ 4278190080 ∷ 83886337 ∷ 16777216 ∷ 117833728 ∷
-    150995485 ∷ 83886336 ∷ 83886338 ∷ 118030336 ∷ 150995712 ∷ 83886338 ∷ 16778240 ∷ 83886337 ∷ 117506048 ∷ 117899264 ∷ 150995500 ∷ 83886338 ∷
-    83886337 ∷ 117571584 ∷ 16777217 ∷ 117571584 ∷ 100663554 ∷ 134218288 ∷ 4278190080 ∷ 83886336 ∷ 83886338 ∷ 117899264 ∷ 150995712 ∷ 83886338 ∷
-    16778496 ∷ 83886337 ∷ 117506048 ∷ 118030336 ∷ 150995500 ∷ 83886338 ∷ 83886337 ∷ 117571584 ∷ 100663554 ∷ 134218288 ∷ 4278190080 ∷ 16778752 ∷
-    100663553 ∷ 16778240 ∷ 100663554 ∷ 4278190080 ∷ []
+    Op 6 0 (Cell 2) ∷ Op 6 0 (Cell 1) ∷ Op 6 0 (Cell 0) ∷ Op 5 0 (Cell 1) ∷ Op 1 0 (Number 0) ∷ Op 7 10 (Number 0) ∷ Op 9 0 (Here 8) ∷
+    Op 20 28 (Number 0) ∷ Mark ∷ Op 5 0 (Cell 1) ∷ Op 1 0 (Number 0) ∷ Op 7 6 (Number 0) ∷ Op 9 0 (Here 29) ∷ Op 5 0 (Cell 0) ∷ Op 5 0 (Cell 2) ∷
+    Op 7 9 (Number 0) ∷ Op 9 0 Exit ∷ Op 5 0 (Cell 2) ∷ Op 1 0 (Number 2147483647) ∷ Op 5 0 (Cell 1) ∷ Op 7 1 (Number 0) ∷ Op 7 7 (Number 0) ∷
+    Op 9 0 (Here 44) ∷ Op 5 0 (Cell 2) ∷ Op 5 0 (Cell 1) ∷ Op 7 2 (Number 0) ∷ Op 1 0 (Number 1) ∷ Op 7 2 (Number 0) ∷ Op 6 0 (Cell 2) ∷
+    Op 8 0 (Here 48) ∷ Mark ∷ Op 5 0 (Cell 0) ∷ Op 5 0 (Cell 2) ∷ Op 7 7 (Number 0) ∷ Op 9 0 Exit ∷ Op 5 0 (Cell 2) ∷ Op 1 0 (Number 2147483648) ∷
+    Op 5 0 (Cell 1) ∷ Op 7 1 (Number 0) ∷ Op 7 9 (Number 0) ∷ Op 9 0 (Here 44) ∷ Op 5 0 (Cell 2) ∷ Op 5 0 (Cell 1) ∷ Op 7 2 (Number 0) ∷
+    Op 6 0 (Cell 2) ∷ Op 8 0 (Here 48) ∷ Mark ∷ Op 1 0 (Number 4294967295) ∷ Op 6 0 (Cell 1) ∷ Op 1 0 (Number 2147483647) ∷ Op 6 0 (Cell 2) ∷ Mark ∷
+    []
 
-abbrev pub turned_rows : List ℕ
+abbrev pub turned_rows : List Row
 turned_rows =
-    83886337 ∷ 16777216 ∷ 117833728 ∷ 83886336 ∷ 83886338 ∷ 117964800 ∷ 118095872 ∷ 150995712 ∷ 83886336 ∷ 83886337 ∷ 117506048 ∷ 100663552 ∷
-    134218240 ∷ 4278190080 ∷ []
+    Op 5 0 (Cell 1) ∷ Op 1 0 (Number 0) ∷ Op 7 6 (Number 0) ∷ Op 5 0 (Cell 0) ∷ Op 5 0 (Cell 2) ∷ Op 7 8 (Number 0) ∷ Op 7 10 (Number 0) ∷
+    Op 9 0 Exit ∷ Op 5 0 (Cell 0) ∷ Op 5 0 (Cell 1) ∷ Op 7 1 (Number 0) ∷ Op 6 0 (Cell 0) ∷ Op 8 0 (Here 0) ∷ Mark ∷ []
 
 module _ (c x z : ℕ) (s : Shape) (p : Cursor) where
   pub entered-cursor : cursor_rows entered_rows 52 (length s.operands) p ≡ cursor_after (code_entered c x z s) p

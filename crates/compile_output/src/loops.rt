@@ -1,4 +1,4 @@
-// The instructions of a loop are the same for every loop but for its cells and addresses: they are written from two patterns, a number a row.
+// The instructions of a loop are the same for every loop but for its cells and addresses: they are written from two patterns.
 ghost use Rattle.std.specs.Prelude.{◌≡◌, ◌≤◌, ◌<◌, length, take};
 ghost use Rattle.bytecode.specs.Macro.{Shape};
 ghost use Rattle.compile_code.specs.Compile.{code_entered, code_turned};
@@ -9,177 +9,181 @@ ghost use Rattle.compile_output.specs.Rows.{number_in, cursor_row, emit_row, cur
 use crate::Cursor;
 use formats::compiled;
 
-// ── a row: its op, its a, what its b counts from, and how far on ──
-const OP: u32 = 16777216;
+// ── a row ──
+// The b of an instruction.
+#[derive(Clone, Copy)]
+enum Operand {
+    Number(u32),
+    // a cell of the loop
+    Cell(u8),
+    // so far from where the pattern begins (or, after a turn, from where the turn began)
+    Here(u8),
+    // behind the loop
+    Exit,
+}
 
-const A: u32 = 65536;
+#[derive(Clone, Copy)]
+enum Row {
+    // the shape that is found there
+    Mark,
+    // op, a and b
+    Op(u8, u8, Operand),
+}
 
-const FROM: u32 = 256;
+const PUSH: u8 = compiled::OP_INTEGER;
 
-const SHAPE: u32 = 255 * OP;
+const LOAD: u8 = compiled::OP_LOAD;
 
-const PUSH: u32 = compiled::OP_INTEGER as u32 * OP;
+const STORE: u8 = compiled::OP_STORE;
 
-const LOAD: u32 = compiled::OP_LOAD as u32 * OP;
+const OPERATE: u8 = compiled::OP_OPERATOR;
 
-const STORE: u32 = compiled::OP_STORE as u32 * OP;
+const GO: u8 = compiled::OP_GO;
 
-const OPERATE: u32 = compiled::OP_OPERATOR as u32 * OP;
+const UNLESS: u8 = compiled::OP_UNLESS;
 
-const GO: u32 = compiled::OP_GO as u32 * OP;
+const STOP: u8 = compiled::OP_STOP;
 
-const UNLESS: u32 = compiled::OP_UNLESS as u32 * OP;
+const PLUS: u8 = 1;
 
-const STOP: u32 = compiled::OP_STOP as u32 * OP;
+const MINUS: u8 = 2;
 
-const PLUS: u32 = A;
+const LESS: u8 = 6;
 
-const MINUS: u32 = 2 * A;
+const AT_MOST: u8 = 7;
 
-const LESS: u32 = 6 * A;
+const GREATER: u8 = 8;
 
-const AT_MOST: u32 = 7 * A;
+const AT_LEAST: u8 = 9;
 
-const GREATER: u32 = 8 * A;
+const EQUAL: u8 = 10;
 
-const AT_LEAST: u32 = 9 * A;
-
-const EQUAL: u32 = 10 * A;
-
-const STEP_ZERO: u32 = 28 * A;
+const STEP_ZERO: u8 = 28;
 
 // the loop's cells
-const VALUE: u32 = FROM;
+const VALUE: u8 = 0;
 
-const STEP: u32 = FROM + 1;
+const STEP: u8 = 1;
 
-const LIMIT: u32 = FROM + 2;
-// addresses: from where the pattern begins (or, after a turn, from where the turn began); behind the loop
-const HERE: u32 = 2 * FROM;
+const LIMIT: u8 = 2;
 
-const EXIT: u32 = 3 * FROM;
 // the largest integer, the smallest, and −1
-const MOST: u32 = 4 * FROM;
+const MOST: u32 = 2147483647;
 
-const LEAST: u32 = 5 * FROM;
+const LEAST: u32 = 2147483648;
 
-const MINUS_ONE: u32 = 6 * FROM;
+const MINUS_ONE: u32 = 4294967295;
 
 // From the three values on the stack to the first turn: `code_entered` in crates/compile_code/specs/Compile says what each step is for.
-const ENTERED: [u32; 52] = [
-    STORE + LIMIT,
-    STORE + STEP,
-    STORE + VALUE,
-    LOAD + STEP,
-    PUSH,
-    OPERATE + EQUAL,
-    UNLESS + HERE + 8,
-    STOP + STEP_ZERO,
-    SHAPE,
-    LOAD + STEP,
-    PUSH,
-    OPERATE + LESS,
-    UNLESS + HERE + 29,
-    LOAD + VALUE,
-    LOAD + LIMIT,
-    OPERATE + AT_LEAST,
-    UNLESS + EXIT,
-    LOAD + LIMIT,
-    PUSH + MOST,
-    LOAD + STEP,
-    OPERATE + PLUS,
-    OPERATE + AT_MOST,
-    UNLESS + HERE + 44,
-    LOAD + LIMIT,
-    LOAD + STEP,
-    OPERATE + MINUS,
-    PUSH + 1,
-    OPERATE + MINUS,
-    STORE + LIMIT,
-    GO + HERE + 48,
-    SHAPE,
-    LOAD + VALUE,
-    LOAD + LIMIT,
-    OPERATE + AT_MOST,
-    UNLESS + EXIT,
-    LOAD + LIMIT,
-    PUSH + LEAST,
-    LOAD + STEP,
-    OPERATE + PLUS,
-    OPERATE + AT_LEAST,
-    UNLESS + HERE + 44,
-    LOAD + LIMIT,
-    LOAD + STEP,
-    OPERATE + MINUS,
-    STORE + LIMIT,
-    GO + HERE + 48,
-    SHAPE,
-    PUSH + MINUS_ONE,
-    STORE + STEP,
-    PUSH + MOST,
-    STORE + LIMIT,
-    SHAPE,
+const ENTERED: [Row; 52] = [
+    Row::Op(STORE, 0, Operand::Cell(LIMIT)),
+    Row::Op(STORE, 0, Operand::Cell(STEP)),
+    Row::Op(STORE, 0, Operand::Cell(VALUE)),
+    Row::Op(LOAD, 0, Operand::Cell(STEP)),
+    Row::Op(PUSH, 0, Operand::Number(0)),
+    Row::Op(OPERATE, EQUAL, Operand::Number(0)),
+    Row::Op(UNLESS, 0, Operand::Here(8)),
+    Row::Op(STOP, STEP_ZERO, Operand::Number(0)),
+    Row::Mark,
+    Row::Op(LOAD, 0, Operand::Cell(STEP)),
+    Row::Op(PUSH, 0, Operand::Number(0)),
+    Row::Op(OPERATE, LESS, Operand::Number(0)),
+    Row::Op(UNLESS, 0, Operand::Here(29)),
+    Row::Op(LOAD, 0, Operand::Cell(VALUE)),
+    Row::Op(LOAD, 0, Operand::Cell(LIMIT)),
+    Row::Op(OPERATE, AT_LEAST, Operand::Number(0)),
+    Row::Op(UNLESS, 0, Operand::Exit),
+    Row::Op(LOAD, 0, Operand::Cell(LIMIT)),
+    Row::Op(PUSH, 0, Operand::Number(MOST)),
+    Row::Op(LOAD, 0, Operand::Cell(STEP)),
+    Row::Op(OPERATE, PLUS, Operand::Number(0)),
+    Row::Op(OPERATE, AT_MOST, Operand::Number(0)),
+    Row::Op(UNLESS, 0, Operand::Here(44)),
+    Row::Op(LOAD, 0, Operand::Cell(LIMIT)),
+    Row::Op(LOAD, 0, Operand::Cell(STEP)),
+    Row::Op(OPERATE, MINUS, Operand::Number(0)),
+    Row::Op(PUSH, 0, Operand::Number(1)),
+    Row::Op(OPERATE, MINUS, Operand::Number(0)),
+    Row::Op(STORE, 0, Operand::Cell(LIMIT)),
+    Row::Op(GO, 0, Operand::Here(48)),
+    Row::Mark,
+    Row::Op(LOAD, 0, Operand::Cell(VALUE)),
+    Row::Op(LOAD, 0, Operand::Cell(LIMIT)),
+    Row::Op(OPERATE, AT_MOST, Operand::Number(0)),
+    Row::Op(UNLESS, 0, Operand::Exit),
+    Row::Op(LOAD, 0, Operand::Cell(LIMIT)),
+    Row::Op(PUSH, 0, Operand::Number(LEAST)),
+    Row::Op(LOAD, 0, Operand::Cell(STEP)),
+    Row::Op(OPERATE, PLUS, Operand::Number(0)),
+    Row::Op(OPERATE, AT_LEAST, Operand::Number(0)),
+    Row::Op(UNLESS, 0, Operand::Here(44)),
+    Row::Op(LOAD, 0, Operand::Cell(LIMIT)),
+    Row::Op(LOAD, 0, Operand::Cell(STEP)),
+    Row::Op(OPERATE, MINUS, Operand::Number(0)),
+    Row::Op(STORE, 0, Operand::Cell(LIMIT)),
+    Row::Op(GO, 0, Operand::Here(48)),
+    Row::Mark,
+    Row::Op(PUSH, 0, Operand::Number(MINUS_ONE)),
+    Row::Op(STORE, 0, Operand::Cell(STEP)),
+    Row::Op(PUSH, 0, Operand::Number(MOST)),
+    Row::Op(STORE, 0, Operand::Cell(LIMIT)),
+    Row::Mark,
 ];
 
 // From the end of a turn to the next.
-const TURNED: [u32; 14] = [
-    LOAD + STEP,
-    PUSH,
-    OPERATE + LESS,
-    LOAD + VALUE,
-    LOAD + LIMIT,
-    OPERATE + GREATER,
-    OPERATE + EQUAL,
-    UNLESS + EXIT,
-    LOAD + VALUE,
-    LOAD + STEP,
-    OPERATE + PLUS,
-    STORE + VALUE,
-    GO + HERE,
-    SHAPE,
+const TURNED: [Row; 14] = [
+    Row::Op(LOAD, 0, Operand::Cell(STEP)),
+    Row::Op(PUSH, 0, Operand::Number(0)),
+    Row::Op(OPERATE, LESS, Operand::Number(0)),
+    Row::Op(LOAD, 0, Operand::Cell(VALUE)),
+    Row::Op(LOAD, 0, Operand::Cell(LIMIT)),
+    Row::Op(OPERATE, GREATER, Operand::Number(0)),
+    Row::Op(OPERATE, EQUAL, Operand::Number(0)),
+    Row::Op(UNLESS, 0, Operand::Exit),
+    Row::Op(LOAD, 0, Operand::Cell(VALUE)),
+    Row::Op(LOAD, 0, Operand::Cell(STEP)),
+    Row::Op(OPERATE, PLUS, Operand::Number(0)),
+    Row::Op(STORE, 0, Operand::Cell(VALUE)),
+    Row::Op(GO, 0, Operand::Here(0)),
+    Row::Mark,
 ];
 
 // ── writing ──
-// The b of a row.
-fn number_in(row: u32, cell: u32, start: u32, exit: u32) -> u32
+fn number_in(b: Operand, cell: u32, start: u32, exit: u32) -> u32
     requires { (cell < 65536) × (start < 65536) }
-    ensures { result ≡ number_in cell start exit row }
+    ensures { result ≡ number_in cell start exit b }
 {
-    let offset = row % 256;
-    match row / 256 % 256 {
-        1 => cell + offset,
-        2 => start + offset,
-        3 => exit,
-        4 => 2147483647,
-        5 => 2147483648,
-        6 => 4294967295,
-        _ => offset,
+    match b {
+        Operand::Number(n) => n,
+        Operand::Cell(n) => cell + n as u32,
+        Operand::Here(n) => start + n as u32,
+        Operand::Exit => exit,
     }
 }
 
 fn put_row(
-    row: u32,
-    b: u32,
+    row: Row,
+    cell: u32,
+    start: u32,
+    exit: u32,
     holds: usize,
     stack: &[u8],
     depth: usize,
     out: &mut [u8],
     p: Cursor,
 ) -> Cursor
-    requires { (depth ≤ length stack.now) × (depth < 256) × (holds < 256) × Fits (cursor_row depth row p) (length out.old) }
-    ensures { (result ≡ cursor_row depth row p) × (out.new ≡ emit_row holds depth (take depth stack.now) b row p out.old) }
+    requires { (cell < 65536) × (start < 65536) × (depth ≤ length stack.now) × (depth < 256) × (holds < 256) × Fits (cursor_row depth row p) (length out.old) }
+    ensures { (result ≡ cursor_row depth row p) × (out.new ≡ emit_row holds depth (take depth stack.now) cell start exit row p out.old) }
 {
-    let op = row / 16777216;
-    if op == 255 {
-        crate::shape(out, p, holds, stack, depth)
-    } else {
-        crate::emit(out, p, op as u8, (row / 65536 % 256) as u8, b)
+    match row {
+        Row::Mark => crate::shape(out, p, holds, stack, depth),
+        Row::Op(op, a, b) => crate::emit(out, p, op, a, number_in(b, cell, start, exit)),
     }
 }
 
 // All rows of a pattern.
 fn put_rows(
-    pattern: &[u32],
+    pattern: &[Row],
     cell: u32,
     start: u32,
     exit: u32,
@@ -197,8 +201,7 @@ fn put_rows(
 {
     let mut p = cursor;
     for row in pattern {
-        let b = number_in(*row, cell, start, exit);
-        p = put_row(*row, b, holds, stack, depth, out, p);
+        p = put_row(*row, cell, start, exit, holds, stack, depth, out, p);
     }
     p
 }

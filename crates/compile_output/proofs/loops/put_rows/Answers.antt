@@ -4,6 +4,7 @@ use native.Mathlib.Omega.{arith}
 use Prim.Native.Nat.{ℕ}
 use lib.ListN.{length, get_or, take}
 use Rattle.compile_output.specs.Rows.{cursor_rows, emit_rows, fits-row, length-row, rows-cursor, rows-emitted}
+use Rattle.compile_output.specs.declared.loops.Row.TheVariants.{Mark}
 use Rattle.compile_output.proofs.loops.put_rows.Goals as goal
 
 pub loop-row-init : goal.loop-row-init
@@ -14,16 +15,16 @@ pub put_row-p-requires : goal.put_row-p-requires
 put_row-p-requires c =
     let a = c.args in let w = c.loop-row in
     let g = c.requires in
-    (g.2, g.3, g.4, rw (w.invariant.0, w.invariant.2) (fits-row a.pattern.now w.row-index (length a.pattern.now) a.depth (length a.out.now) a.cursor (omega arith) g.5))
+    (g.0, g.1, g.2, g.3, g.4, rw (w.invariant.0, w.invariant.2) (fits-row a.pattern.now w.row-index (length a.pattern.now) a.depth (length a.out.now) a.cursor (omega arith) g.5))
 
 pub loop-row-preserved : goal.loop-row-preserved
 loop-row-preserved c =
     let a = c.args in let w = c.loop-row in
     let t = a.pattern.now in let ts = take a.depth a.stack.now in
-    let e = c.put_row-p.ensures in let b = c.number_in-b.ensures in let i = w.row-index in (
+    let e = c.put_row-p.ensures in let i = w.row-index in (
       e.0 ∙ rw w.invariant.0 (rows-cursor t i a.depth a.cursor),
-      e.1 ∙ rw (b, w.invariant.0, w.invariant.1) (rows-emitted t i a.holds a.depth ts a.cell a.start a.exit a.cursor a.out.now),
-      ap (length {A = ℕ}) e.1 ∙ (length-row a.holds a.depth ts c.number_in-b.result (get_or t i 0) w.p w.out ∙ w.invariant.2),
+      e.1 ∙ rw (w.invariant.0, w.invariant.1) (rows-emitted t i a.holds a.depth ts a.cell a.start a.exit a.cursor a.out.now),
+      ap (length {A = ℕ}) e.1 ∙ (length-row a.holds a.depth ts a.cell a.start a.exit (get_or t i Mark) w.p w.out ∙ w.invariant.2),
     )
 
 pub shape_of-out : goal.shape_of-out
@@ -36,6 +37,3 @@ returns c =
       w.invariant.0 ∙ ap (λ (n : ℕ). cursor_rows a.pattern.now n a.depth a.cursor) e,
       w.invariant.1 ∙ ap (λ (n : ℕ). emit_rows a.pattern.now n a.holds a.depth (take a.depth a.stack.now) a.cell a.start a.exit a.cursor a.out.now) e,
     )
-
-pub number_in-b-requires : goal.number_in-b-requires
-number_in-b-requires c = (omega arith, omega arith)
