@@ -15,6 +15,7 @@ use formats::entries::*;
 use table_entries::Fault;
 
 // The names in sight after a block's labels were pushed, and whether none of them is a name that the block had before.
+// Kept (point 1): no Option, since the names stay in sight whichever `once` is.
 #[derive(Clone, Copy)]
 pub struct Labelled {
     pub top: usize,

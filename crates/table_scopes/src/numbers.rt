@@ -1,4 +1,5 @@
 // The numbers of the names in sight, as u32. A name is a number of 16 bits, and a mark stands where a name would.
+// Kept (point 1): constants and no enum, since they lie in lent numbers (fixed memory), a mark where a name may be and a type where a sort may be.
 
 pub const LAST_NAME: u32 = 65535;
 

@@ -1,4 +1,5 @@
 // What an entry makes of the types of its operands, which stand above the names in sight. A type is one number, 0 for none.
+// Kept (point 1): no Option of a type, since the lent numbers hold it as one number, and so do `operated_by` and `typed_by`.
 #![tactic(auto)]
 
 mod kinds;
