@@ -34,6 +34,7 @@ fn body(
 }
 
 // Where a result is asked for, the body has its type.
+#[tactic(auto, unfolding(table_forms::specs::Root::result_flaw))]
 fn returned(heading: u32, t: u32, place: usize) -> Result<u32, Fault>
     ensures { Says result (result_flaw heading t place) }
 {

@@ -39,6 +39,7 @@ fn is_plain(kind: u16) -> bool
 }
 
 // The statements below an entry that has one expression before them.
+#[tactic(auto, unfolding(table_forms::specs::Walk::guarded_by))]
 fn guarded_of(kind: u16, a: u16) -> usize
     ensures { result ≡ guarded_by kind a }
 {
@@ -67,6 +68,7 @@ fn tested(kind: u16, t: u32, place: usize) -> Result<u32, Fault>
 }
 
 // Whether the part begins with an assignment to a control name. That is a fault at the target, which comes before all others of the statement.
+#[tactic(auto, unfolding(table_forms::specs::Walk::fixed_by))]
 fn is_fixed(part: &[u8], kind: u16, env: &[u32], top: usize) -> bool
     requires { (kind ≡ half_at part.now 0) × (half_at part.now 0 ≡ 21 → 16 ≤ length part.now) × (4 * top ≤ length env.now) }
     ensures { result ≡ fixed_by part.now (find (half_at part.now 10) (env_of env.now top)) }

@@ -50,6 +50,7 @@ fn joined(t: u32, u: u32) -> u32
 }
 
 // The type that an operator gives, and 0 where the operands are not those that it takes.
+#[tactic(auto, unfolding(crate::specs::Settle::operated_by))]
 fn operated(op: u32, t: u32, u: u32) -> u32
     ensures { result ≡ operated_by op t u }
 {
@@ -68,6 +69,7 @@ fn operated(op: u32, t: u32, u: u32) -> u32
 }
 
 // The same for an entry of any kind that names nothing; a statement gives 1.
+#[tactic(auto, unfolding(crate::specs::Settle::typed_by))]
 fn typed(kind: u32, a: u32, t: u32, u: u32, w: u32) -> u32
     ensures { result ≡ typed_by kind a t u w }
 {
@@ -192,6 +194,7 @@ fn recorded(
 }
 
 // An entry that names a definition. The sort of a field is the number of the type that it is a field of.
+#[tactic(auto, unfolding(crate::specs::Settle::named_by))]
 fn named(
     table: &[u8],
     kind: u32,
@@ -217,6 +220,7 @@ fn named(
     }
 }
 
+#[tactic(auto, unfolding(crate::specs::Settle::names_by))]
 fn names(kind: u32) -> bool
     ensures { result ≡ names_by kind }
 {
@@ -233,6 +237,7 @@ fn names(kind: u32) -> bool
 }
 
 // The entry at `place`, whose operands' types were found.
+#[tactic(auto, unfolding(crate::specs::Settle::settled_by))]
 pub fn settle(
     table: &[u8],
     kind: u32,
@@ -287,6 +292,7 @@ pub fn is_control(a: u32, env: &[u32], top: usize) -> bool
 }
 
 // An expression with nothing below it.
+#[tactic(auto, unfolding(crate::specs::Settle::is_leaf))]
 pub fn is_leaf(kind: u16) -> bool
     ensures { result ≡ is_leaf kind }
 {
@@ -297,6 +303,7 @@ pub fn is_leaf(kind: u16) -> bool
 }
 
 // Such an expression at once: what `settle` gives for it.
+#[tactic(auto, unfolding(crate::specs::Settle::leaf_by))]
 pub fn leaf(kind: u16, a: u32, place: usize, env: &[u32], top: usize) -> Result<u32, Fault>
     requires { (4 * top ≤ length env.now) × (a < 65536) }
     ensures { result ≡ leaf_by kind a place (find a (env_of env.now top)) }

@@ -1,8 +1,0 @@
--- `table_types::right_if` meets its contract.
-use Rattle.table_types.proofs.right_if.Goals as goal
-
-pub returns-then-b : goal.returns-then-b
-returns-then-b c = rw c.if-b.true
-
-pub returns-else-b : goal.returns-else-b
-returns-else-b c = rw c.if-b.false
