@@ -23,6 +23,7 @@ pub struct Labelled {
 }
 
 // The name that the entry at a place defines, where it is of this kind; by a filter of the names that the block has.
+#[tactic(auto, unfolding(crate::specs::Items::one_at, crate::specs::Environment::add_all))]
 fn add_one_by(
     seen: &mut [u8],
     table: &[u8],
@@ -144,6 +145,7 @@ fn add_labels(
 }
 
 // A class with its fields, a procedure, or a variable of the root's head.
+#[tactic(auto, unfolding(crate::specs::Items::global_at))]
 fn add_global(table: &[u8], place: usize, env: &mut [u32], top: usize) -> usize
     requires { WithinGlobal table.now place × (length table.now ≤ 16384) × (4 * (top + length (global_at table.now place)) ≤ length env.old) }
     ensures { Grown top env.old env.new result (add_all (global_at table.now place) (env_of env.old top)) (length (global_at table.now place)) }
@@ -331,6 +333,7 @@ fn classed(env: &[u32], top: usize, ty: u32, place: usize) -> Result<u32, Fault>
 }
 
 // One declaration of a head; a hold defines nothing.
+#[tactic(auto, unfolding(crate::specs::Flaws::decl_flaws))]
 fn declared(table: &[u8], at: usize, env: &[u32], top: usize) -> Result<u32, Fault>
     requires { (8 * (at + 1) ≤ length table.now) × (4 * top ≤ length env.now) }
     ensures { Says result (decl_flaws table.now (env_of env.now top) at) }

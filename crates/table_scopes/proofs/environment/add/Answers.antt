@@ -3,13 +3,6 @@ use Rattle.table_scopes.specs.EnvironmentLaws.{not-added, is-added, grown-push}
 use Rattle.table_scopes.specs.Filter.{covers-push}
 use Rattle.table_scopes.proofs.environment.add.Goals as goal
 
-pub returns-then-here_by : goal.returns-then-here_by
-returns-then-here_by c = (
-  not-added c.args.env.now c.args.top c.args.name c.args.sort c.args.number c.args.place
-      c.here_by.ensures c.if-here_by.true,
-  c.requires.1,
-)
-
 pub returns : goal.returns
 returns c = (
   is-added c.args.env.now _ c.args.top c.args.name c.args.sort c.args.number

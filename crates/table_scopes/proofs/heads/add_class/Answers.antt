@@ -5,27 +5,6 @@ use Prim.Native.Nat.{◌+◌}
 use Rattle.table_scopes.specs.Items.{a_at, b_at, one_at, items_at, grown-append, room-left, room-right}
 use Rattle.table_scopes.proofs.heads.add_class.Goals as goal
 
-pub add_one-up-requires : goal.add_one-up-requires
-add_one-up-requires c = (
-  omega arith,
-  c.requires.1,
-  room-left (one_at 11 6 c.args.table.now
-      c.args.place) (items_at (65536 + a_at c.args.table.now
-      c.args.place) c.args.table.now (c.args.place + 1)
-      (b_at c.args.table.now c.args.place)) c.args.top
-      (length c.args.env.now) c.requires.2,
-)
-
-pub add_head-requires : goal.add_head-requires
-add_head-requires c = (
-  rw c.b_at.ensures c.requires.0,
-  c.requires.1,
-  rw (c.a_at.ensures, c.b_at.ensures)
-      (room-right (one_at 11 6 c.args.table.now c.args.place)
-      (items_at (65536 + a_at c.args.table.now c.args.place) c.args.table.now (c.args.place + 1)
-      (b_at c.args.table.now c.args.place)) c.requires.2 c.add_one-up.ensures),
-)
-
 pub returns : goal.returns
 returns c =
     grown-append (one_at 11 6 c.args.table.now c.args.place)
