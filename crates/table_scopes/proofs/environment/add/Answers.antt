@@ -1,5 +1,5 @@
 -- `table_scopes::environment::add` meets its contract.
-use Rattle.table_scopes.specs.EnvironmentLaws.{not-added, is-added, grown-push}
+use Rattle.table_scopes.specs.EnvironmentLaws.{is-added, grown-push}
 use Rattle.table_scopes.specs.Filter.{covers-push}
 use Rattle.table_scopes.proofs.environment.add.Goals as goal
 

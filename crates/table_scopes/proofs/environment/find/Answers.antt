@@ -1,11 +1,8 @@
 -- `table_scopes::environment::find` meets its contract.
 use native.Mathlib.Omega.{arith}
 use mathlib.Core.Path.{sym, ◌∙◌}
-use Rattle.table_scopes.specs.EnvironmentLaws.{find-hit, find-miss, find_none, passing-none}
+use Rattle.table_scopes.specs.EnvironmentLaws.{find-hit, find-miss, find_none}
 use Rattle.table_scopes.proofs.environment.find.Goals as goal
-
-pub loop-i-init : goal.loop-i-init
-loop-i-init c = passing-none _
 
 pub returns-then-n-name : goal.returns-then-n-name
 returns-then-n-name c =

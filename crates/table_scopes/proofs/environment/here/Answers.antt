@@ -1,11 +1,8 @@
 -- `table_scopes::environment::here` meets its contract.
 use native.Mathlib.Omega.{arith}
-use mathlib.Core.Path.{refl, sym, ◌∙◌}
+use mathlib.Core.Path.{sym, ◌∙◌}
 use Rattle.table_scopes.specs.EnvironmentLaws.{here-mark, here-hit, here-miss, here-none}
 use Rattle.table_scopes.proofs.environment.here.Goals as goal
-
-pub loop-i-init : goal.loop-i-init
-loop-i-init c = refl
 
 pub returns-then-n-gt-LAST_NAME : goal.returns-then-n-gt-LAST_NAME
 returns-then-n-gt-LAST_NAME c = sym (c.loop-i.invariant ∙ here-mark c.args.env.now c.args.name c.loop-i.i (omega arith) (omega arith))

@@ -1,8 +1,6 @@
 -- `table_scopes::heads::add_class` meets its contract.
-use native.Mathlib.Omega.{arith}
-use lib.ListN.{length}
 use Prim.Native.Nat.{◌+◌}
-use Rattle.table_scopes.specs.Items.{a_at, b_at, one_at, items_at, grown-append, room-left, room-right}
+use Rattle.table_scopes.specs.Items.{a_at, b_at, one_at, items_at, grown-append}
 use Rattle.table_scopes.proofs.heads.add_class.Goals as goal
 
 pub returns : goal.returns

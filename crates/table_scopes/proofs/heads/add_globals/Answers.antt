@@ -2,13 +2,8 @@
 use native.Mathlib.Omega.{arith}
 use mathlib.Core.Path.{refl, ◌∙◌}
 use Prim.Native.Nat.{◌+◌, ◌-◌}
-use Rattle.table_entries.specs.Sizes.{size_small}
-use Rattle.table_scopes.specs.Items.{global_at, globals_from, after, adds-start, adds-room, adds-next, adds-end, globals-more, globals-none, globals-here, globals-next}
+use Rattle.table_scopes.specs.Items.{global_at, globals_from, after, adds-room, adds-next, adds-end, globals-more, globals-none, globals-here, globals-next}
 use Rattle.table_scopes.proofs.heads.add_globals.Goals as goal
-
-pub loop-left-init : goal.loop-left-init
-loop-left-init c =
-    (adds-start (globals_from c.args.table.now 1 c.args.count) c.args.top c.args.env.now, c.requires.1, refl)
 
 pub add_global-up-requires : goal.add_global-up-requires
 add_global-up-requires c =
@@ -30,15 +25,6 @@ size_at-place-requires c =
     let rh = globals-here l place left (omega arith) c.loop-left.invariant.1 in
     omega (arith, c.requires.0.wide, rh.within)
 
-pub overflow_add-place : goal.overflow_add-place
-overflow_add-place c =
-    let l = c.args.table.now in
-    let place = c.loop-left.place in
-    let left = c.loop-left.left in
-    let rh = globals-here l place left (omega arith) c.loop-left.invariant.1 in
-    let z = c.size_at-place.ensures ∙ c.requires.0.sized place (omega (arith, rh.within)) in
-    omega (arith, size_small l place 1 c.size_at-place.result z, rh.within)
-
 pub loop-left-preserved : goal.loop-left-preserved
 loop-left-preserved c =
     let l = c.args.table.now in
@@ -50,9 +36,6 @@ loop-left-preserved c =
     let a = adds-next c.loop-left.invariant.0 (global_at l place)
     (globals_from l (place + c.size_at-place.result) (left - 1)) step c.add_global-up.ensures in
     (a, globals-next l place left c.size_at-place.result (omega arith) z c.loop-left.invariant.1, a.same)
-
-pub shape_of-env : goal.shape_of-env
-shape_of-env c = c.loop-left.invariant.2
 
 pub returns : goal.returns
 returns c = adds-end c.loop-left.invariant.0 (globals-none c.args.table.now c.loop-left.place c.loop-left.left (omega arith))

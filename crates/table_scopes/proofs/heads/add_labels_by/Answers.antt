@@ -1,23 +1,11 @@
 -- `table_scopes::heads::add_labels_by` meets its contract.
 use native.Mathlib.Omega.{arith}
 use mathlib.Core.Path.{refl, ◌∙◌}
-use mathlib.Core.Bool.{true}
 use Prim.Native.Nat.{◌+◌, ◌-◌}
 use Rattle.table_scopes.specs.Environment.{env_of}
-use Rattle.table_entries.specs.Sizes.{size_small}
-use Rattle.table_scopes.specs.Items.{one_at, labels_from, after, adds-start, adds-room, adds-next, adds-end, labels-more, labels-none, reach_here, reach-next}
-use Rattle.table_scopes.specs.Spared.{sparing-start, sparing-next, sparing-end, env-length}
+use Rattle.table_scopes.specs.Items.{one_at, labels_from, after, adds-room, adds-next, adds-end, labels-more, labels-none, reach_here, reach-next}
+use Rattle.table_scopes.specs.Spared.{sparing-next, sparing-end, env-length}
 use Rattle.table_scopes.proofs.heads.add_labels_by.Goals as goal
-
-pub loop-left-init : goal.loop-left-init
-loop-left-init c = (
-  adds-start (labels_from c.args.table.now c.args.at c.args.count) c.args.top c.args.env.now,
-  c.requires.1,
-  refl,
-  sparing-start c.args.table.now c.args.at c.args.count true (env_of c.args.env.now c.args.top),
-  c.requires.4,
-  refl,
-)
 
 pub add_one_by-more-requires : goal.add_one_by-more-requires
 add_one_by-more-requires c =
@@ -41,16 +29,6 @@ size_at-place-requires c =
     let rh = reach_here c.args.table.now c.loop-left.place c.loop-left.left (omega arith) c.loop-left.invariant.1 in
     omega (arith, c.requires.0.wide)
 
-pub overflow_add-place : goal.overflow_add-place
-overflow_add-place c =
-    let l = c.args.table.now in
-    let place = c.loop-left.place in
-    let left = c.loop-left.left in
-    let rh = reach_here l place left (omega arith) c.loop-left.invariant.1 in
-    let known = c.requires.0 in
-    let z = c.size_at-place.ensures ∙ known.sized place (omega (arith, rh)) in
-    omega (arith, size_small l place 1 c.size_at-place.result z)
-
 pub loop-left-preserved : goal.loop-left-preserved
 loop-left-preserved c =
     let l = c.args.table.now in
@@ -70,12 +48,6 @@ loop-left-preserved c =
       c.add_one_by-more.ensures.1,
       omega (arith, c.loop-left.invariant.5),
     )
-
-pub shape_of-env : goal.shape_of-env
-shape_of-env c = c.loop-left.invariant.2
-
-pub shape_of-seen : goal.shape_of-seen
-shape_of-seen c = c.loop-left.invariant.5
 
 pub returns : goal.returns
 returns c = (

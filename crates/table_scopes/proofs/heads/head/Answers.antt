@@ -4,11 +4,8 @@ use mathlib.Core.Path.{◌∙◌}
 use Prim.Native.Nat.{◌+◌, ◌-◌}
 use Rattle.std.proofs.lemmas.Result.{err_from_is_err_and}
 use Rattle.table_scopes.specs.Environment.{env_of}
-use Rattle.table_scopes.specs.Flaws.{decl_flaws, head_flaws, head-start, head_next, head-none, says-fine, says_first}
+use Rattle.table_scopes.specs.Flaws.{decl_flaws, head_flaws, head_next, head-none, says-fine, says_first}
 use Rattle.table_scopes.proofs.heads.head.Goals as goal
-
-pub loop-place-init : goal.loop-place-init
-loop-place-init c = head-start c.args.table.now (env_of c.args.env.now c.args.top) c.args.at c.args.count
 
 pub loop-place-preserved : goal.loop-place-preserved
 loop-place-preserved c =

@@ -2,27 +2,10 @@
 use native.Mathlib.Omega.{arith}
 use mathlib.Core.List.{◌++◌}
 use Prim.Native.Nat.{◌+◌}
-use lib.ListN.{length-append}
 use Rattle.table_scopes.specs.Environment.{item}
 use Rattle.table_scopes.specs.EnvironmentLaws.{grown-push}
-use Rattle.table_scopes.specs.Items.{items_at, labels_from, grown-append, grown-marked, room-right}
+use Rattle.table_scopes.specs.Items.{items_at, labels_from, grown-append, grown-marked}
 use Rattle.table_scopes.proofs.heads.open.Goals as goal
-
-pub add_head-up-requires : goal.add_head-up-requires
-add_head-up-requires c =
-    let l = c.args.table.now in
-    let heads = items_at 4 l c.args.at c.args.heads in
-    let labels = labels_from l (c.args.at + c.args.heads) c.args.items in
-    let pushed = grown-push c.args.env.now _ c.args.top c.args.mark 0 0 0 (omega arith) c.push.ensures in
-    (c.requires.1, c.requires.3, omega (arith, pushed.same, length-append heads labels))
-
-pub add_labels-requires : goal.add_labels-requires
-add_labels-requires c =
-    let l = c.args.table.now in
-    let heads = items_at 4 l c.args.at c.args.heads in
-    let labels = labels_from l (c.args.at + c.args.heads) c.args.items in
-    let pushed = grown-push c.args.env.now _ c.args.top c.args.mark 0 0 0 (omega arith) c.push.ensures in
-    (c.requires.0, c.requires.2, c.requires.3, room-right heads labels (omega (arith, pushed.same)) c.add_head-up.ensures)
 
 pub returns : goal.returns
 returns c =

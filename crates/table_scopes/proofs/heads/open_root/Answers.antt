@@ -1,27 +1,10 @@
 -- `table_scopes::heads::open_root` meets its contract.
 use native.Mathlib.Omega.{arith}
 use mathlib.Core.List.{◌++◌}
-use lib.ListN.{length-append}
 use Rattle.table_scopes.specs.Environment.{item}
 use Rattle.table_scopes.specs.EnvironmentLaws.{grown-push}
-use Rattle.table_scopes.specs.Items.{globals_from, labels_from, grown-append, grown-marked, room-right}
+use Rattle.table_scopes.specs.Items.{globals_from, labels_from, grown-append, grown-marked}
 use Rattle.table_scopes.proofs.heads.open_root.Goals as goal
-
-pub add_globals-up-requires : goal.add_globals-up-requires
-add_globals-up-requires c =
-    let l = c.args.table.now in
-    let heads = globals_from l 1 c.args.heads in
-    let labels = labels_from l c.args.after c.args.items in
-    let pushed = grown-push c.args.env.now _ 0 65536 0 0 0 (omega arith) c.push.ensures in
-    (c.requires.0, c.requires.1, c.requires.3, omega (arith, pushed.same, length-append heads labels))
-
-pub add_labels-requires : goal.add_labels-requires
-add_labels-requires c =
-    let l = c.args.table.now in
-    let heads = globals_from l 1 c.args.heads in
-    let labels = labels_from l c.args.after c.args.items in
-    let pushed = grown-push c.args.env.now _ 0 65536 0 0 0 (omega arith) c.push.ensures in
-    (c.requires.0, c.requires.2, c.requires.3, room-right heads labels (omega (arith, pushed.same)) c.add_globals-up.ensures)
 
 pub returns : goal.returns
 returns c =

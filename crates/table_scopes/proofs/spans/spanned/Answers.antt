@@ -1,23 +1,11 @@
 -- `table_scopes::spans::spanned` meets its contract.
-use mathlib.Core.Path.{refl, ◌∙◌}
+use mathlib.Core.Path.{◌∙◌}
 use native.Mathlib.Omega.{arith}
-use Rattle.table_scopes.specs.Hops.{hops-start, hops-next, hops-early, hops-end}
+use Rattle.table_scopes.specs.Hops.{hops-next, hops-early, hops-end}
 use Rattle.table_scopes.proofs.spans.spanned.Goals as goal
-
-pub loop-left-init : goal.loop-left-init
-loop-left-init c =
-    (hops-start c.args.table.now c.args.from c.args.parts c.requires.1, refl)
 
 pub returns-then-count-at : goal.returns-then-count-at
 returns-then-count-at c = hops-early c.loop-left.invariant.0 (omega arith)
-
-pub overflow_add-at : goal.overflow_add-at
-overflow_add-at c =
-    omega (
-      arith,
-      (hops-next c.loop-left.invariant.0 c.size_at-at.result (omega arith)
-          (c.size_at-at.ensures ∙ c.requires.0.sized c.loop-left.at (omega arith))).within,
-    )
 
 pub loop-left-preserved : goal.loop-left-preserved
 loop-left-preserved c = (
