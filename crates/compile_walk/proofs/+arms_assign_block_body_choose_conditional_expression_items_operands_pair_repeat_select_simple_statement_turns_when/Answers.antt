@@ -1,5 +1,5 @@
 -- The walkers meet their contracts: every fact is a law of crates/compile_steps, applied to what is known where it is needed.
-use Prim.Native.Nat.{ℕ, ◌+◌}
+use Prim.Native.Nat.{ℕ, ◌+◌, ◌-◌}
 use Rattle.compile_steps.specs.Arms.{arms-asks, arms-before, arms-behind, arms-passes, arms_end, arms_next, arms_start}
 use Rattle.compile_steps.specs.Assign.{answers-field, answers-variable, asks-assign, asks-field-emit, asks-field-finish, asks-field-first, asks-field-mid, asks-field-nests, asks-field-second, asks-variable-emit, asks-variable-finish, asks-variable-first, asks-variable-second}
 use Rattle.compile_steps.specs.BlockAsks.{answers-block, asks-block-few, asks-block-finish, asks-block-items, asks-block-open, asks-block-releases, asks-block-within}
@@ -16,79 +16,68 @@ use Rattle.compile_steps.specs.Views.{leaf-of, simple-expr, simple-stmt}
 use Rattle.compile_steps.specs.WhenAsks.{answers-when, asks-when-emit, asks-when-finish, asks-when-first, asks-when-passes, asks-when-second, asks-when-shape}
 use Rattle.compile_steps.specs.WhileAsks.{answers-while, asks-while-emit, asks-while-emit₂, asks-while-finish, asks-while-first, asks-while-passes, asks-while-second, asks-while-shape, asks-while-shape₂}
 use Rattle.compile_symbols.specs.Numbers.{second_in}
-use mathlib.Core.Path.{ap, refl, sym, ◌∙◌}
+use mathlib.Core.Path.{ap, refl, sym, ◌∙◌, ◌≡◌}
 use native.Mathlib.Omega.{arith}
+use Rattle.std.proofs.Common.{rules}
 use Rattle.compile_walk.proofs.+arms_assign_block_body_choose_conditional_expression_items_operands_pair_repeat_select_simple_statement_turns_when.Goals as goal
 
 pub arms-loop-i-init : goal.arms-loop-i-init
-arms-loop-i-init t c = arms_start _ _ _ _ _ _ _ _ _ _ _ _ _ _
+arms-loop-i-init t c = record { same = search rules; far = arms_start _ _ _ _ _ _ _ _ _ _ _ _ _ _ }
 
 pub arms-before_arm-q-requires : goal.arms-before_arm-q-requires
-arms-before_arm-q-requires t c = let z = arms-before c.requires c.loop-i.invariant c.loop-i-test.true in (z.0, c.end_of.ensures.1, z.1)
+arms-before_arm-q-requires t c = let z = arms-before c.requires c.loop-i.invariant.far (omega arith) in (z.0, c.end_of.ensures.1, z.1)
 
 pub arms-statement-r-requires : goal.arms-statement-r-requires
 arms-statement-r-requires t c = (
   omega (arith, c.decreases),
-  arms-asks c.requires c.loop-i.invariant c.loop-i-test.true
+  arms-asks c.requires c.loop-i.invariant.far (omega arith)
       (c.second_in-cell.ensures ∙ ap second_in c.known_at.ensures) c.end_of.ensures.0 c.before_arm-q.ensures,
 )
 
 pub arms-after_arm-p-requires : goal.arms-after_arm-p-requires
-arms-after_arm-p-requires t c = arms-behind c.requires c.loop-i.invariant c.loop-i-test.true (c.second_in-cell.ensures ∙ ap second_in c.known_at.ensures)
-    c.end_of.ensures.0 c.before_arm-q.ensures c.end_of-end.ensures.0 c.statement-r.ensures
+arms-after_arm-p-requires t c = arms-behind c.requires c.loop-i.invariant.far (omega arith) (c.second_in-cell.ensures ∙ ap second_in c.known_at.ensures)
+    c.end_of.ensures.0 c.before_arm-q.ensures c.end_of-end.ensures.0 c.statement-r.ensures.answers
 
 pub arms-size_at-n-requires : goal.arms-size_at-n-requires
-arms-size_at-n-requires t c = (arms-passes c.requires c.loop-i.invariant c.loop-i-test.true _ refl).known
+arms-size_at-n-requires t c = (arms-passes c.requires c.loop-i.invariant.far (omega arith) _ refl).known
 
 pub arms-overflow_mul-from : goal.arms-overflow_mul-from
-arms-overflow_mul-from t c = omega (arith, (arms-passes c.requires c.loop-i.invariant c.loop-i-test.true c.size_at-n.result c.size_at-n.ensures).small)
+arms-overflow_mul-from t c = omega (arith, (arms-passes c.requires c.loop-i.invariant.far (omega arith) c.size_at-n.result c.size_at-n.ensures).small)
 
 pub arms-slice_bounds-rest-count : goal.arms-slice_bounds-rest-count
-arms-slice_bounds-rest-count t c = (arms-passes c.requires c.loop-i.invariant c.loop-i-test.true c.size_at-n.result c.size_at-n.ensures).fits
+arms-slice_bounds-rest-count t c = (arms-passes c.requires c.loop-i.invariant.far (omega arith) c.size_at-n.result c.size_at-n.ensures).fits
 
 pub arms-slice_bounds-rest-start : goal.arms-slice_bounds-rest-start
-arms-slice_bounds-rest-start t c = (arms-passes c.requires c.loop-i.invariant c.loop-i-test.true c.size_at-n.result c.size_at-n.ensures).fits
+arms-slice_bounds-rest-start t c = (arms-passes c.requires c.loop-i.invariant.far (omega arith) c.size_at-n.result c.size_at-n.ensures).fits
 
 pub arms-overflow_add-place : goal.arms-overflow_add-place
-arms-overflow_add-place t c = omega (arith, (arms-passes c.requires c.loop-i.invariant c.loop-i-test.true c.size_at-n.result c.size_at-n.ensures).small)
-
-pub arms-overflow_add-i : goal.arms-overflow_add-i
-arms-overflow_add-i t c = omega (arith, (arms-before c.requires c.loop-i.invariant c.loop-i-test.true).0)
-
-pub arms-loop-i-smaller : goal.arms-loop-i-smaller
-arms-loop-i-smaller t c = omega (arith, c.loop-i-test.true)
+arms-overflow_add-place t c = omega (arith, (arms-passes c.requires c.loop-i.invariant.far (omega arith) c.size_at-n.result c.size_at-n.ensures).small)
 
 pub arms-loop-i-preserved : goal.arms-loop-i-preserved
-arms-loop-i-preserved t c = arms_next c.requires c.loop-i.invariant c.loop-i-test.true (c.second_in-cell.ensures ∙ ap second_in c.known_at.ensures)
-    c.end_of.ensures.0 c.before_arm-q.ensures c.end_of-end.ensures.0 c.statement-r.ensures c.after_arm-p.ensures
-    c.size_at-n.result c.size_at-n.ensures
-
-pub arms-shape_of-env : goal.arms-shape_of-env
-arms-shape_of-env t c = (arms_end c.loop-i.invariant (omega arith)).kept.same-env
-
-pub arms-shape_of-ends : goal.arms-shape_of-ends
-arms-shape_of-ends t c = (arms_end c.loop-i.invariant (omega arith)).kept.same_ends
+arms-loop-i-preserved t c = record {
+  same = search rules;
+  far = arms_next c.requires c.loop-i.invariant.far (omega arith) (c.second_in-cell.ensures ∙ ap second_in c.known_at.ensures)
+      c.end_of.ensures.0 c.before_arm-q.ensures c.end_of-end.ensures.0 c.statement-r.ensures.answers c.after_arm-p.ensures
+      c.size_at-n.result c.size_at-n.ensures;
+}
 
 pub arms-shape_of-stack : goal.arms-shape_of-stack
-arms-shape_of-stack t c = (arms_end c.loop-i.invariant (omega arith)).kept.same-stack
+arms-shape_of-stack t c = (arms_end c.loop-i.invariant.far (omega arith)).kept.same-stack
 
-pub arms-shape_of-out : goal.arms-shape_of-out
-arms-shape_of-out t c = (arms_end c.loop-i.invariant (omega arith)).kept.same_out
-
-pub arms-returns : goal.arms-returns
-arms-returns t c = arms_end c.loop-i.invariant (omega arith)
+pub arms-returns-clause-answers : goal.arms-returns-clause-answers
+arms-returns-clause-answers t c = arms_end c.loop-i.invariant.far (omega arith)
 
 -- what it has done where it returns
-pub assign-returns-then-kind_at-eq-KIND_VARIABLE : goal.assign-returns-then-kind_at-eq-KIND_VARIABLE
-assign-returns-then-kind_at-eq-KIND_VARIABLE t c =
+pub assign-returns-then-kind_at-eq-KIND_VARIABLE-clause-answers : goal.assign-returns-then-kind_at-eq-KIND_VARIABLE-clause-answers
+assign-returns-then-kind_at-eq-KIND_VARIABLE-clause-answers t c =
     answers-variable c.requires c.size_at.result c.size_at.ensures c.meaning-k.result (rw c.a_at.ensures at c.meaning-k.ensures)
-    (sym c.kind_at.ensures ∙ c.if-kind_at-eq-KIND_VARIABLE.true) c.finish-p.ensures c.expression-q.ensures
+    (sym c.kind_at.ensures ∙ c.if-kind_at-eq-KIND_VARIABLE.true) c.finish-p.ensures c.expression-q.ensures.answers
     (rw (c.owner.ensures, c.second_in.ensures) at c.emit-r.ensures) c.finish.ensures
 
-pub assign-returns : goal.assign-returns
-assign-returns t c =
+pub assign-returns-clause-answers : goal.assign-returns-clause-answers
+assign-returns-clause-answers t c =
     answers-field c.requires c.size_at.result c.size_at.ensures c.meaning-k.result (rw c.a_at.ensures at c.meaning-k.ensures)
-    (λ z. c.if-kind_at-eq-KIND_VARIABLE.false (c.kind_at.ensures ∙ z)) c.expression-p.ensures c.finish-q.ensures c.expression-r.ensures
+    (λ z. c.if-kind_at-eq-KIND_VARIABLE.false (c.kind_at.ensures ∙ z)) c.expression-p.ensures.answers c.finish-q.ensures c.expression-r.ensures.answers
     (rw (c.first_in.ensures, c.second_in-2.ensures) at c.emit-s.ensures) c.finish-2.ensures
 
 pub assign-a_at-requires : goal.assign-a_at-requires
@@ -142,24 +131,15 @@ assign-expression-q-requires t c = (
 
 pub assign-emit-r-requires : goal.assign-emit-r-requires
 assign-emit-r-requires t c = asks-variable-emit c.requires c.size_at.result c.size_at.ensures c.meaning-k.result
-    (rw c.a_at.ensures at c.meaning-k.ensures) (sym c.kind_at.ensures ∙ c.if-kind_at-eq-KIND_VARIABLE.true) c.finish-p.ensures c.expression-q.ensures
+    (rw c.a_at.ensures at c.meaning-k.ensures) (sym c.kind_at.ensures ∙ c.if-kind_at-eq-KIND_VARIABLE.true) c.finish-p.ensures c.expression-q.ensures.answers
 
 pub assign-finish-requires : goal.assign-finish-requires
 assign-finish-requires t c = asks-variable-finish c.requires c.size_at.result c.size_at.ensures c.meaning-k.result
     (rw c.a_at.ensures at c.meaning-k.ensures) (sym c.kind_at.ensures ∙ c.if-kind_at-eq-KIND_VARIABLE.true) c.finish-p.ensures
-    c.expression-q.ensures (rw (c.owner.ensures, c.second_in.ensures) at c.emit-r.ensures)
-
-pub assign-shape_of-env-then-kind_at-eq-KIND_VARIABLE : goal.assign-shape_of-env-then-kind_at-eq-KIND_VARIABLE
-assign-shape_of-env-then-kind_at-eq-KIND_VARIABLE t c = (assign-returns-then-kind_at-eq-KIND_VARIABLE t c).kept.same-env
-
-pub assign-shape_of-ends-then-kind_at-eq-KIND_VARIABLE : goal.assign-shape_of-ends-then-kind_at-eq-KIND_VARIABLE
-assign-shape_of-ends-then-kind_at-eq-KIND_VARIABLE t c = (assign-returns-then-kind_at-eq-KIND_VARIABLE t c).kept.same_ends
+    c.expression-q.ensures.answers (rw (c.owner.ensures, c.second_in.ensures) at c.emit-r.ensures)
 
 pub assign-shape_of-stack-then-kind_at-eq-KIND_VARIABLE : goal.assign-shape_of-stack-then-kind_at-eq-KIND_VARIABLE
-assign-shape_of-stack-then-kind_at-eq-KIND_VARIABLE t c = (assign-returns-then-kind_at-eq-KIND_VARIABLE t c).kept.same-stack
-
-pub assign-shape_of-out-then-kind_at-eq-KIND_VARIABLE : goal.assign-shape_of-out-then-kind_at-eq-KIND_VARIABLE
-assign-shape_of-out-then-kind_at-eq-KIND_VARIABLE t c = (assign-returns-then-kind_at-eq-KIND_VARIABLE t c).kept.same_out
+assign-shape_of-stack-then-kind_at-eq-KIND_VARIABLE t c = (assign-returns-then-kind_at-eq-KIND_VARIABLE-clause-answers t c).kept.same-stack
 
 pub assign-slice_bounds-expression-count-2 : goal.assign-slice_bounds-expression-count-2
 assign-slice_bounds-expression-count-2 t c = omega (arith, (asks-assign c.requires).long)
@@ -194,7 +174,7 @@ assign-overflow_add-at-3 t c = omega (arith, (asked c.requires).small)
 
 pub assign-finish-q-requires : goal.assign-finish-q-requires
 assign-finish-q-requires t c = asks-field-mid c.requires c.size_at.result c.size_at.ensures c.meaning-k.result
-    (rw c.a_at.ensures at c.meaning-k.ensures) (λ z. c.if-kind_at-eq-KIND_VARIABLE.false (c.kind_at.ensures ∙ z)) c.expression-p.ensures
+    (rw c.a_at.ensures at c.meaning-k.ensures) (λ z. c.if-kind_at-eq-KIND_VARIABLE.false (c.kind_at.ensures ∙ z)) c.expression-p.ensures.answers
 
 pub assign-slice_bounds-expression-count-3 : goal.assign-slice_bounds-expression-count-3
 assign-slice_bounds-expression-count-3 t c = second-within c.args.part.now c.args.at c.size_at.result (asked c.requires).long
@@ -215,36 +195,27 @@ assign-expression-r-requires t c = (
   omega (arith, (asked c.requires).nested, c.decreases),
   asks-field-second c.requires c.size_at.result c.size_at.ensures
       c.meaning-k.result (rw c.a_at.ensures at c.meaning-k.ensures) (λ z. c.if-kind_at-eq-KIND_VARIABLE.false (c.kind_at.ensures ∙ z))
-      c.expression-p.ensures c.finish-q.ensures,
+      c.expression-p.ensures.answers c.finish-q.ensures,
 )
 
 pub assign-emit-s-requires : goal.assign-emit-s-requires
 assign-emit-s-requires t c = asks-field-emit c.requires c.size_at.result c.size_at.ensures c.meaning-k.result
-    (rw c.a_at.ensures at c.meaning-k.ensures) (λ z. c.if-kind_at-eq-KIND_VARIABLE.false (c.kind_at.ensures ∙ z)) c.expression-p.ensures
-    c.finish-q.ensures c.expression-r.ensures
+    (rw c.a_at.ensures at c.meaning-k.ensures) (λ z. c.if-kind_at-eq-KIND_VARIABLE.false (c.kind_at.ensures ∙ z)) c.expression-p.ensures.answers
+    c.finish-q.ensures c.expression-r.ensures.answers
 
 pub assign-finish-requires-2 : goal.assign-finish-requires-2
 assign-finish-requires-2 t c = asks-field-finish c.requires c.size_at.result c.size_at.ensures c.meaning-k.result
-    (rw c.a_at.ensures at c.meaning-k.ensures) (λ z. c.if-kind_at-eq-KIND_VARIABLE.false (c.kind_at.ensures ∙ z)) c.expression-p.ensures
-    c.finish-q.ensures c.expression-r.ensures (rw (c.first_in.ensures, c.second_in-2.ensures) at c.emit-s.ensures)
-
-pub assign-shape_of-env : goal.assign-shape_of-env
-assign-shape_of-env t c = (assign-returns t c).kept.same-env
-
-pub assign-shape_of-ends : goal.assign-shape_of-ends
-assign-shape_of-ends t c = (assign-returns t c).kept.same_ends
+    (rw c.a_at.ensures at c.meaning-k.ensures) (λ z. c.if-kind_at-eq-KIND_VARIABLE.false (c.kind_at.ensures ∙ z)) c.expression-p.ensures.answers
+    c.finish-q.ensures c.expression-r.ensures.answers (rw (c.first_in.ensures, c.second_in-2.ensures) at c.emit-s.ensures)
 
 pub assign-shape_of-stack : goal.assign-shape_of-stack
-assign-shape_of-stack t c = (assign-returns t c).kept.same-stack
-
-pub assign-shape_of-out : goal.assign-shape_of-out
-assign-shape_of-out t c = (assign-returns t c).kept.same_out
+assign-shape_of-stack t c = (assign-returns-clause-answers t c).kept.same-stack
 
 -- what it has done where it returns
-pub block-returns : goal.block-returns
-block-returns t c =
+pub block-returns-clause-answers : goal.block-returns-clause-answers
+block-returns-clause-answers t c =
     answers-block c.requires c.a_at-heads.ensures c.b_at-count.ensures c.open_block-o.ensures
-    c.items-q.ensures c.releases.ensures c.finish.ensures
+    c.items-q.ensures.answers c.releases-done.ensures c.finish.ensures
 
 pub block-a_at-heads-requires : goal.block-a_at-heads-requires
 block-a_at-heads-requires t c = omega (arith, (asked c.requires).long)
@@ -294,29 +265,20 @@ block-items-q-requires t c = (
   asks-block-items c.requires c.a_at-heads.ensures c.b_at-count.ensures c.open_block-o.ensures,
 )
 
-pub block-releases-requires : goal.block-releases-requires
-block-releases-requires t c = asks-block-releases c.requires c.a_at-heads.ensures c.b_at-count.ensures c.open_block-o.ensures c.items-q.ensures
+pub block-releases-done-requires : goal.block-releases-done-requires
+block-releases-done-requires t c = asks-block-releases c.requires c.a_at-heads.ensures c.b_at-count.ensures c.open_block-o.ensures c.items-q.ensures.answers
 
 pub block-finish-requires : goal.block-finish-requires
-block-finish-requires t c = asks-block-finish c.requires c.a_at-heads.ensures c.b_at-count.ensures c.open_block-o.ensures c.items-q.ensures c.releases.ensures
-
-pub block-shape_of-env : goal.block-shape_of-env
-block-shape_of-env t c = (block-returns t c).kept.same-env
-
-pub block-shape_of-ends : goal.block-shape_of-ends
-block-shape_of-ends t c = (block-returns t c).kept.same_ends
+block-finish-requires t c = asks-block-finish c.requires c.a_at-heads.ensures c.b_at-count.ensures c.open_block-o.ensures c.items-q.ensures.answers c.releases-done.ensures
 
 pub block-shape_of-stack : goal.block-shape_of-stack
-block-shape_of-stack t c = (block-returns t c).kept.same-stack
-
-pub block-shape_of-out : goal.block-shape_of-out
-block-shape_of-out t c = (block-returns t c).kept.same_out
+block-shape_of-stack t c = (block-returns-clause-answers t c).kept.same-stack
 
 -- what it has done where it returns
-pub body-returns : goal.body-returns
-body-returns t c =
+pub body-returns-clause-answers : goal.body-returns-clause-answers
+body-returns-clause-answers t c =
     answers-body c.requires c.a_at-heads.ensures c.b_at-count.ensures c.open_block-o.ensures
-    c.items-q.ensures c.spanned-n.ensures c.expression-r.ensures c.releases.ensures c.finish.ensures
+    c.items-q.ensures.answers c.spanned-n.ensures c.expression-r.ensures.answers c.releases-done.ensures c.finish.ensures
 
 pub body-a_at-heads-requires : goal.body-a_at-heads-requires
 body-a_at-heads-requires t c = omega (arith, (asked c.requires).long)
@@ -379,16 +341,16 @@ pub body-overflow_add-after : goal.body-overflow_add-after
 body-overflow_add-after t c = omega (arith, (asks-body-within c.requires c.a_at-heads.ensures c.b_at-count.ensures).1)
 
 pub body-overflow_add-after-2 : goal.body-overflow_add-after-2
-body-overflow_add-after-2 t c = omega (arith, (asks-body-passes c.requires c.a_at-heads.ensures c.b_at-count.ensures c.open_block-o.ensures c.items-q.ensures c.spanned-n.ensures).1)
+body-overflow_add-after-2 t c = omega (arith, (asks-body-passes c.requires c.a_at-heads.ensures c.b_at-count.ensures c.open_block-o.ensures c.items-q.ensures.answers c.spanned-n.ensures).1)
 
 pub body-overflow_mul-after : goal.body-overflow_mul-after
-body-overflow_mul-after t c = omega (arith, (asks-body-passes c.requires c.a_at-heads.ensures c.b_at-count.ensures c.open_block-o.ensures c.items-q.ensures c.spanned-n.ensures).1)
+body-overflow_mul-after t c = omega (arith, (asks-body-passes c.requires c.a_at-heads.ensures c.b_at-count.ensures c.open_block-o.ensures c.items-q.ensures.answers c.spanned-n.ensures).1)
 
 pub body-slice_bounds-expression-count : goal.body-slice_bounds-expression-count
-body-slice_bounds-expression-count t c = (asks-body-passes c.requires c.a_at-heads.ensures c.b_at-count.ensures c.open_block-o.ensures c.items-q.ensures c.spanned-n.ensures).0
+body-slice_bounds-expression-count t c = (asks-body-passes c.requires c.a_at-heads.ensures c.b_at-count.ensures c.open_block-o.ensures c.items-q.ensures.answers c.spanned-n.ensures).0
 
 pub body-slice_bounds-expression-start : goal.body-slice_bounds-expression-start
-body-slice_bounds-expression-start t c = (asks-body-passes c.requires c.a_at-heads.ensures c.b_at-count.ensures c.open_block-o.ensures c.items-q.ensures c.spanned-n.ensures).0
+body-slice_bounds-expression-start t c = (asks-body-passes c.requires c.a_at-heads.ensures c.b_at-count.ensures c.open_block-o.ensures c.items-q.ensures.answers c.spanned-n.ensures).0
 
 pub body-overflow_sub-nesting-2 : goal.body-overflow_sub-nesting-2
 body-overflow_sub-nesting-2 t c = omega (arith, (asked c.requires).nested)
@@ -400,42 +362,33 @@ pub body-overflow_add-at-7 : goal.body-overflow_add-at-7
 body-overflow_add-at-7 t c = omega (arith, (asks-body-within c.requires c.a_at-heads.ensures c.b_at-count.ensures).1)
 
 pub body-overflow_add-at-8 : goal.body-overflow_add-at-8
-body-overflow_add-at-8 t c = omega (arith, (asks-body-passes c.requires c.a_at-heads.ensures c.b_at-count.ensures c.open_block-o.ensures c.items-q.ensures c.spanned-n.ensures).1)
+body-overflow_add-at-8 t c = omega (arith, (asks-body-passes c.requires c.a_at-heads.ensures c.b_at-count.ensures c.open_block-o.ensures c.items-q.ensures.answers c.spanned-n.ensures).1)
 
 pub body-expression-r-requires : goal.body-expression-r-requires
 body-expression-r-requires t c = (
   omega (arith, (asked c.requires).nested, c.decreases),
   asks-body-value c.requires c.a_at-heads.ensures c.b_at-count.ensures c.open_block-o.ensures
-      c.items-q.ensures c.spanned-n.ensures,
+      c.items-q.ensures.answers c.spanned-n.ensures,
 )
 
-pub body-releases-requires : goal.body-releases-requires
-body-releases-requires t c = asks-body-releases c.requires c.a_at-heads.ensures c.b_at-count.ensures c.open_block-o.ensures
-    c.items-q.ensures c.spanned-n.ensures c.expression-r.ensures
+pub body-releases-done-requires : goal.body-releases-done-requires
+body-releases-done-requires t c = asks-body-releases c.requires c.a_at-heads.ensures c.b_at-count.ensures c.open_block-o.ensures
+    c.items-q.ensures.answers c.spanned-n.ensures c.expression-r.ensures.answers
 
 pub body-finish-requires : goal.body-finish-requires
 body-finish-requires t c = asks-body-finish c.requires c.a_at-heads.ensures c.b_at-count.ensures c.open_block-o.ensures
-    c.items-q.ensures c.spanned-n.ensures c.expression-r.ensures c.releases.ensures
-
-pub body-shape_of-env : goal.body-shape_of-env
-body-shape_of-env t c = (body-returns t c).kept.same-env
-
-pub body-shape_of-ends : goal.body-shape_of-ends
-body-shape_of-ends t c = (body-returns t c).kept.same_ends
+    c.items-q.ensures.answers c.spanned-n.ensures c.expression-r.ensures.answers c.releases-done.ensures
 
 pub body-shape_of-stack : goal.body-shape_of-stack
-body-shape_of-stack t c = (body-returns t c).kept.same-stack
-
-pub body-shape_of-out : goal.body-shape_of-out
-body-shape_of-out t c = (body-returns t c).kept.same_out
+body-shape_of-stack t c = (body-returns-clause-answers t c).kept.same-stack
 
 -- what it has done where it returns
-pub choose-returns : goal.choose-returns
-choose-returns t c =
+pub choose-returns-clause-answers : goal.choose-returns-clause-answers
+choose-returns-clause-answers t c =
     answers-choose c.requires c.size_at.result c.size_at.ensures c.size_at-2.result
-    c.size_at-2.ensures c.expression-p.ensures c.end_of.ensures.0 c.emit-q.ensures
-    c.statement-r.ensures c.end_of-2.ensures.0 c.emit-s.ensures c.shape-t.ensures
-    c.statement-u.ensures c.shape.ensures c.finish.ensures
+    c.size_at-2.ensures c.expression-p.ensures.answers c.end_of.ensures.0 c.emit-q.ensures
+    c.statement-r.ensures.answers c.end_of-2.ensures.0 c.emit-s.ensures c.shape-t.ensures
+    c.statement-u.ensures.answers c.shape-done.ensures c.finish.ensures
 
 pub choose-slice_bounds-expression-count : goal.choose-slice_bounds-expression-count
 choose-slice_bounds-expression-count t c = omega (arith, (asked c.requires).long)
@@ -465,17 +418,17 @@ pub choose-overflow_add-second-2 : goal.choose-overflow_add-second-2
 choose-overflow_add-second-2 t c = omega (arith, (asks-choose-passes c.requires c.size_at.result c.size_at.ensures).small)
 
 pub choose-size_at-requires-2 : goal.choose-size_at-requires-2
-choose-size_at-requires-2 t c = (asks-choose-passes₂ c.requires c.size_at.result c.size_at.ensures _ refl c.expression-p.ensures).known
+choose-size_at-requires-2 t c = (asks-choose-passes₂ c.requires c.size_at.result c.size_at.ensures _ refl c.expression-p.ensures.answers).known
 
 pub choose-overflow_add-third : goal.choose-overflow_add-third
-choose-overflow_add-third t c = omega (arith, (asks-choose-passes₂ c.requires c.size_at.result c.size_at.ensures c.size_at-2.result c.size_at-2.ensures c.expression-p.ensures).small)
+choose-overflow_add-third t c = omega (arith, (asks-choose-passes₂ c.requires c.size_at.result c.size_at.ensures c.size_at-2.result c.size_at-2.ensures c.expression-p.ensures.answers).small)
 
 pub choose-overflow_add-end_of : goal.choose-overflow_add-end_of
 choose-overflow_add-end_of t c = omega (arith, c.end_of.ensures.1)
 
 pub choose-emit-q-requires : goal.choose-emit-q-requires
 choose-emit-q-requires t c = asks-choose-emit c.requires c.size_at.result c.size_at.ensures c.size_at-2.result
-    c.size_at-2.ensures c.expression-p.ensures
+    c.size_at-2.ensures c.expression-p.ensures.answers
 
 pub choose-overflow_mul-from : goal.choose-overflow_mul-from
 choose-overflow_mul-from t c = omega (arith, (asks-choose-passes c.requires c.size_at.result c.size_at.ensures).small)
@@ -495,27 +448,27 @@ pub choose-statement-r-requires : goal.choose-statement-r-requires
 choose-statement-r-requires t c = (
   omega (arith, (asked c.requires).nested, c.decreases),
   asks-choose-second c.requires c.size_at.result c.size_at.ensures c.size_at-2.result c.size_at-2.ensures
-      c.expression-p.ensures c.end_of.ensures.0 c.emit-q.ensures,
+      c.expression-p.ensures.answers c.end_of.ensures.0 c.emit-q.ensures,
 )
 
 pub choose-emit-s-requires : goal.choose-emit-s-requires
 choose-emit-s-requires t c = asks-choose-emit₂ c.requires c.size_at.result c.size_at.ensures c.size_at-2.result
-    c.size_at-2.ensures c.expression-p.ensures c.end_of.ensures.0 c.emit-q.ensures
-    c.statement-r.ensures
+    c.size_at-2.ensures c.expression-p.ensures.answers c.end_of.ensures.0 c.emit-q.ensures
+    c.statement-r.ensures.answers
 
 pub choose-shape-t-requires : goal.choose-shape-t-requires
 choose-shape-t-requires t c = asks-choose-shape c.requires c.size_at.result c.size_at.ensures c.size_at-2.result
-    c.size_at-2.ensures c.expression-p.ensures c.end_of.ensures.0 c.emit-q.ensures
-    c.statement-r.ensures c.end_of-2.ensures.0 c.emit-s.ensures
+    c.size_at-2.ensures c.expression-p.ensures.answers c.end_of.ensures.0 c.emit-q.ensures
+    c.statement-r.ensures.answers c.end_of-2.ensures.0 c.emit-s.ensures
 
 pub choose-overflow_mul-last : goal.choose-overflow_mul-last
-choose-overflow_mul-last t c = omega (arith, (asks-choose-passes₂ c.requires c.size_at.result c.size_at.ensures c.size_at-2.result c.size_at-2.ensures c.expression-p.ensures).small)
+choose-overflow_mul-last t c = omega (arith, (asks-choose-passes₂ c.requires c.size_at.result c.size_at.ensures c.size_at-2.result c.size_at-2.ensures c.expression-p.ensures.answers).small)
 
 pub choose-slice_bounds-statement-count-2 : goal.choose-slice_bounds-statement-count-2
-choose-slice_bounds-statement-count-2 t c = third-within c.args.part.now c.args.at (c.args.at + 1 + c.size_at.result) c.size_at-2.result (omega arith) (second-within c.args.part.now c.args.at c.size_at.result (asked c.requires).long (asks-choose-passes c.requires c.size_at.result c.size_at.ensures)) (asks-choose-passes₂ c.requires c.size_at.result c.size_at.ensures c.size_at-2.result c.size_at-2.ensures c.expression-p.ensures)
+choose-slice_bounds-statement-count-2 t c = third-within c.args.part.now c.args.at (c.args.at + 1 + c.size_at.result) c.size_at-2.result (omega arith) (second-within c.args.part.now c.args.at c.size_at.result (asked c.requires).long (asks-choose-passes c.requires c.size_at.result c.size_at.ensures)) (asks-choose-passes₂ c.requires c.size_at.result c.size_at.ensures c.size_at-2.result c.size_at-2.ensures c.expression-p.ensures.answers)
 
 pub choose-slice_bounds-statement-start-2 : goal.choose-slice_bounds-statement-start-2
-choose-slice_bounds-statement-start-2 t c = third-within c.args.part.now c.args.at (c.args.at + 1 + c.size_at.result) c.size_at-2.result (omega arith) (second-within c.args.part.now c.args.at c.size_at.result (asked c.requires).long (asks-choose-passes c.requires c.size_at.result c.size_at.ensures)) (asks-choose-passes₂ c.requires c.size_at.result c.size_at.ensures c.size_at-2.result c.size_at-2.ensures c.expression-p.ensures)
+choose-slice_bounds-statement-start-2 t c = third-within c.args.part.now c.args.at (c.args.at + 1 + c.size_at.result) c.size_at-2.result (omega arith) (second-within c.args.part.now c.args.at c.size_at.result (asked c.requires).long (asks-choose-passes c.requires c.size_at.result c.size_at.ensures)) (asks-choose-passes₂ c.requires c.size_at.result c.size_at.ensures c.size_at-2.result c.size_at-2.ensures c.expression-p.ensures.answers)
 
 pub choose-overflow_sub-nesting-3 : goal.choose-overflow_sub-nesting-3
 choose-overflow_sub-nesting-3 t c = omega (arith, (asked c.requires).nested)
@@ -524,39 +477,30 @@ pub choose-statement-u-requires : goal.choose-statement-u-requires
 choose-statement-u-requires t c = (
   omega (arith, (asked c.requires).nested, c.decreases),
   asks-choose-third c.requires c.size_at.result c.size_at.ensures c.size_at-2.result
-      c.size_at-2.ensures c.expression-p.ensures c.end_of.ensures.0 c.emit-q.ensures
-      c.statement-r.ensures c.end_of-2.ensures.0 c.emit-s.ensures c.shape-t.ensures,
+      c.size_at-2.ensures c.expression-p.ensures.answers c.end_of.ensures.0 c.emit-q.ensures
+      c.statement-r.ensures.answers c.end_of-2.ensures.0 c.emit-s.ensures c.shape-t.ensures,
 )
 
-pub choose-shape-requires : goal.choose-shape-requires
-choose-shape-requires t c = asks-choose-shape₂ c.requires c.size_at.result c.size_at.ensures c.size_at-2.result
-    c.size_at-2.ensures c.expression-p.ensures c.end_of.ensures.0 c.emit-q.ensures
-    c.statement-r.ensures c.end_of-2.ensures.0 c.emit-s.ensures c.shape-t.ensures c.statement-u.ensures
+pub choose-shape-done-requires : goal.choose-shape-done-requires
+choose-shape-done-requires t c = asks-choose-shape₂ c.requires c.size_at.result c.size_at.ensures c.size_at-2.result
+    c.size_at-2.ensures c.expression-p.ensures.answers c.end_of.ensures.0 c.emit-q.ensures
+    c.statement-r.ensures.answers c.end_of-2.ensures.0 c.emit-s.ensures c.shape-t.ensures c.statement-u.ensures.answers
 
 pub choose-finish-requires : goal.choose-finish-requires
 choose-finish-requires t c = asks-choose-finish c.requires c.size_at.result c.size_at.ensures c.size_at-2.result c.size_at-2.ensures
-    c.expression-p.ensures c.end_of.ensures.0 c.emit-q.ensures
-    c.statement-r.ensures c.end_of-2.ensures.0 c.emit-s.ensures c.shape-t.ensures c.statement-u.ensures c.shape.ensures
-
-pub choose-shape_of-env : goal.choose-shape_of-env
-choose-shape_of-env t c = (choose-returns t c).kept.same-env
-
-pub choose-shape_of-ends : goal.choose-shape_of-ends
-choose-shape_of-ends t c = (choose-returns t c).kept.same_ends
+    c.expression-p.ensures.answers c.end_of.ensures.0 c.emit-q.ensures
+    c.statement-r.ensures.answers c.end_of-2.ensures.0 c.emit-s.ensures c.shape-t.ensures c.statement-u.ensures.answers c.shape-done.ensures
 
 pub choose-shape_of-stack : goal.choose-shape_of-stack
-choose-shape_of-stack t c = (choose-returns t c).kept.same-stack
-
-pub choose-shape_of-out : goal.choose-shape_of-out
-choose-shape_of-out t c = (choose-returns t c).kept.same_out
+choose-shape_of-stack t c = (choose-returns-clause-answers t c).kept.same-stack
 
 -- what it has done where it returns
-pub conditional-returns : goal.conditional-returns
-conditional-returns t c =
-    answers-cond c.requires c.size_at.result c.size_at.ensures c.expression-p.ensures
-    c.end_of.ensures.0 c.emit-q.ensures c.expression-r.ensures
+pub conditional-returns-clause-answers : goal.conditional-returns-clause-answers
+conditional-returns-clause-answers t c =
+    answers-cond c.requires c.size_at.result c.size_at.ensures c.expression-p.ensures.answers
+    c.end_of.ensures.0 c.emit-q.ensures c.expression-r.ensures.answers
     c.size_at-2.result c.size_at-2.ensures
-    c.end_of-2.ensures.0 c.emit-s.ensures c.shape-t.ensures c.expression-u.ensures _ refl c.shape.ensures c.finish.ensures
+    c.end_of-2.ensures.0 c.emit-s.ensures c.shape-t.ensures c.expression-u.ensures.answers _ refl c.shape-done.ensures c.finish.ensures
 
 pub conditional-slice_bounds-expression-count : goal.conditional-slice_bounds-expression-count
 conditional-slice_bounds-expression-count t c = omega (arith, (asked c.requires).long)
@@ -586,16 +530,16 @@ pub conditional-overflow_add-second-2 : goal.conditional-overflow_add-second-2
 conditional-overflow_add-second-2 t c = omega (arith, (asks-cond-passes c.requires c.size_at.result c.size_at.ensures).small)
 
 pub conditional-size_at-requires-2 : goal.conditional-size_at-requires-2
-conditional-size_at-requires-2 t c = (asks-cond-passes₂ c.requires c.size_at.result c.size_at.ensures c.expression-p.ensures _ refl).known
+conditional-size_at-requires-2 t c = (asks-cond-passes₂ c.requires c.size_at.result c.size_at.ensures c.expression-p.ensures.answers _ refl).known
 
 pub conditional-overflow_add-third : goal.conditional-overflow_add-third
-conditional-overflow_add-third t c = omega (arith, (asks-cond-passes₂ c.requires c.size_at.result c.size_at.ensures c.expression-p.ensures c.size_at-2.result c.size_at-2.ensures).small)
+conditional-overflow_add-third t c = omega (arith, (asks-cond-passes₂ c.requires c.size_at.result c.size_at.ensures c.expression-p.ensures.answers c.size_at-2.result c.size_at-2.ensures).small)
 
 pub conditional-overflow_add-end_of : goal.conditional-overflow_add-end_of
 conditional-overflow_add-end_of t c = omega (arith, c.end_of.ensures.1)
 
 pub conditional-emit-q-requires : goal.conditional-emit-q-requires
-conditional-emit-q-requires t c = asks-cond-emit c.requires c.size_at.result c.size_at.ensures c.expression-p.ensures
+conditional-emit-q-requires t c = asks-cond-emit c.requires c.size_at.result c.size_at.ensures c.expression-p.ensures.answers
 
 pub conditional-overflow_mul-from : goal.conditional-overflow_mul-from
 conditional-overflow_mul-from t c = omega (arith, (asks-cond-passes c.requires c.size_at.result c.size_at.ensures).small)
@@ -615,30 +559,30 @@ pub conditional-expression-r-requires : goal.conditional-expression-r-requires
 conditional-expression-r-requires t c = (
   omega (arith, (asked c.requires).nested, c.decreases),
   asks-cond-second c.requires c.size_at.result c.size_at.ensures
-      c.expression-p.ensures c.end_of.ensures.0 c.emit-q.ensures,
+      c.expression-p.ensures.answers c.end_of.ensures.0 c.emit-q.ensures,
 )
 
 pub conditional-bounds-stack-depth : goal.conditional-bounds-stack-depth
-conditional-bounds-stack-depth t c = asks-cond-read c.requires c.size_at.result c.size_at.ensures c.expression-p.ensures
-    c.end_of.ensures.0 c.emit-q.ensures c.expression-r.ensures
+conditional-bounds-stack-depth t c = asks-cond-read c.requires c.size_at.result c.size_at.ensures c.expression-p.ensures.answers
+    c.end_of.ensures.0 c.emit-q.ensures c.expression-r.ensures.answers
 
 pub conditional-emit-s-requires : goal.conditional-emit-s-requires
-conditional-emit-s-requires t c = asks-cond-emit₂ c.requires c.size_at.result c.size_at.ensures c.expression-p.ensures
-    c.end_of.ensures.0 c.emit-q.ensures c.expression-r.ensures
+conditional-emit-s-requires t c = asks-cond-emit₂ c.requires c.size_at.result c.size_at.ensures c.expression-p.ensures.answers
+    c.end_of.ensures.0 c.emit-q.ensures c.expression-r.ensures.answers
 
 pub conditional-shape-t-requires : goal.conditional-shape-t-requires
-conditional-shape-t-requires t c = asks-cond-shape c.requires c.size_at.result c.size_at.ensures c.expression-p.ensures c.end_of.ensures.0 c.emit-q.ensures
-    c.expression-r.ensures c.size_at-2.result c.size_at-2.ensures
+conditional-shape-t-requires t c = asks-cond-shape c.requires c.size_at.result c.size_at.ensures c.expression-p.ensures.answers c.end_of.ensures.0 c.emit-q.ensures
+    c.expression-r.ensures.answers c.size_at-2.result c.size_at-2.ensures
     c.end_of-2.ensures.0 c.emit-s.ensures
 
 pub conditional-overflow_mul-last : goal.conditional-overflow_mul-last
-conditional-overflow_mul-last t c = omega (arith, (asks-cond-passes₂ c.requires c.size_at.result c.size_at.ensures c.expression-p.ensures c.size_at-2.result c.size_at-2.ensures).small)
+conditional-overflow_mul-last t c = omega (arith, (asks-cond-passes₂ c.requires c.size_at.result c.size_at.ensures c.expression-p.ensures.answers c.size_at-2.result c.size_at-2.ensures).small)
 
 pub conditional-slice_bounds-expression-count-3 : goal.conditional-slice_bounds-expression-count-3
-conditional-slice_bounds-expression-count-3 t c = third-within c.args.part.now c.args.at (c.args.at + 1 + c.size_at.result) c.size_at-2.result (omega arith) (second-within c.args.part.now c.args.at c.size_at.result (asked c.requires).long (asks-cond-passes c.requires c.size_at.result c.size_at.ensures)) (asks-cond-passes₂ c.requires c.size_at.result c.size_at.ensures c.expression-p.ensures c.size_at-2.result c.size_at-2.ensures)
+conditional-slice_bounds-expression-count-3 t c = third-within c.args.part.now c.args.at (c.args.at + 1 + c.size_at.result) c.size_at-2.result (omega arith) (second-within c.args.part.now c.args.at c.size_at.result (asked c.requires).long (asks-cond-passes c.requires c.size_at.result c.size_at.ensures)) (asks-cond-passes₂ c.requires c.size_at.result c.size_at.ensures c.expression-p.ensures.answers c.size_at-2.result c.size_at-2.ensures)
 
 pub conditional-slice_bounds-expression-start-3 : goal.conditional-slice_bounds-expression-start-3
-conditional-slice_bounds-expression-start-3 t c = third-within c.args.part.now c.args.at (c.args.at + 1 + c.size_at.result) c.size_at-2.result (omega arith) (second-within c.args.part.now c.args.at c.size_at.result (asked c.requires).long (asks-cond-passes c.requires c.size_at.result c.size_at.ensures)) (asks-cond-passes₂ c.requires c.size_at.result c.size_at.ensures c.expression-p.ensures c.size_at-2.result c.size_at-2.ensures)
+conditional-slice_bounds-expression-start-3 t c = third-within c.args.part.now c.args.at (c.args.at + 1 + c.size_at.result) c.size_at-2.result (omega arith) (second-within c.args.part.now c.args.at c.size_at.result (asked c.requires).long (asks-cond-passes c.requires c.size_at.result c.size_at.ensures)) (asks-cond-passes₂ c.requires c.size_at.result c.size_at.ensures c.expression-p.ensures.answers c.size_at-2.result c.size_at-2.ensures)
 
 pub conditional-overflow_sub-nesting-3 : goal.conditional-overflow_sub-nesting-3
 conditional-overflow_sub-nesting-3 t c = omega (arith, (asked c.requires).nested)
@@ -646,51 +590,42 @@ conditional-overflow_sub-nesting-3 t c = omega (arith, (asked c.requires).nested
 pub conditional-expression-u-requires : goal.conditional-expression-u-requires
 conditional-expression-u-requires t c = (
   omega (arith, (asked c.requires).nested, c.decreases),
-  asks-cond-third c.requires c.size_at.result c.size_at.ensures c.expression-p.ensures c.end_of.ensures.0
-      c.emit-q.ensures c.expression-r.ensures c.size_at-2.result c.size_at-2.ensures
+  asks-cond-third c.requires c.size_at.result c.size_at.ensures c.expression-p.ensures.answers c.end_of.ensures.0
+      c.emit-q.ensures c.expression-r.ensures.answers c.size_at-2.result c.size_at-2.ensures
       c.end_of-2.ensures.0 c.emit-s.ensures c.shape-t.ensures,
 )
 
 pub conditional-bounds-stack-depth-2 : goal.conditional-bounds-stack-depth-2
-conditional-bounds-stack-depth-2 t c = asks-cond-write c.requires c.size_at.result c.size_at.ensures c.expression-p.ensures c.end_of.ensures.0 c.emit-q.ensures
-    c.expression-r.ensures c.size_at-2.result c.size_at-2.ensures
-    c.end_of-2.ensures.0 c.emit-s.ensures c.shape-t.ensures c.expression-u.ensures
+conditional-bounds-stack-depth-2 t c = asks-cond-write c.requires c.size_at.result c.size_at.ensures c.expression-p.ensures.answers c.end_of.ensures.0 c.emit-q.ensures
+    c.expression-r.ensures.answers c.size_at-2.result c.size_at-2.ensures
+    c.end_of-2.ensures.0 c.emit-s.ensures c.shape-t.ensures c.expression-u.ensures.answers
 
 pub conditional-overflow_add-depth : goal.conditional-overflow_add-depth
 conditional-overflow_add-depth t c = omega (arith, (asked c.requires).deep)
 
-pub conditional-shape-requires : goal.conditional-shape-requires
-conditional-shape-requires t c = asks-cond-shape₂ c.requires c.size_at.result c.size_at.ensures c.expression-p.ensures c.end_of.ensures.0
-    c.emit-q.ensures c.expression-r.ensures c.size_at-2.result c.size_at-2.ensures
-    c.end_of-2.ensures.0 c.emit-s.ensures c.shape-t.ensures c.expression-u.ensures _ refl
+pub conditional-shape-done-requires : goal.conditional-shape-done-requires
+conditional-shape-done-requires t c = asks-cond-shape₂ c.requires c.size_at.result c.size_at.ensures c.expression-p.ensures.answers c.end_of.ensures.0
+    c.emit-q.ensures c.expression-r.ensures.answers c.size_at-2.result c.size_at-2.ensures
+    c.end_of-2.ensures.0 c.emit-s.ensures c.shape-t.ensures c.expression-u.ensures.answers _ refl
 
 pub conditional-finish-requires : goal.conditional-finish-requires
-conditional-finish-requires t c = asks-cond-finish c.requires c.size_at.result c.size_at.ensures c.expression-p.ensures c.end_of.ensures.0
-    c.emit-q.ensures c.expression-r.ensures c.size_at-2.result c.size_at-2.ensures
-    c.end_of-2.ensures.0 c.emit-s.ensures c.shape-t.ensures c.expression-u.ensures _ refl c.shape.ensures
-
-pub conditional-shape_of-env : goal.conditional-shape_of-env
-conditional-shape_of-env t c = (conditional-returns t c).kept.same-env
-
-pub conditional-shape_of-ends : goal.conditional-shape_of-ends
-conditional-shape_of-ends t c = (conditional-returns t c).kept.same_ends
+conditional-finish-requires t c = asks-cond-finish c.requires c.size_at.result c.size_at.ensures c.expression-p.ensures.answers c.end_of.ensures.0
+    c.emit-q.ensures c.expression-r.ensures.answers c.size_at-2.result c.size_at-2.ensures
+    c.end_of-2.ensures.0 c.emit-s.ensures c.shape-t.ensures c.expression-u.ensures.answers _ refl c.shape-done.ensures
 
 pub conditional-shape_of-stack : goal.conditional-shape_of-stack
-conditional-shape_of-stack t c = (conditional-returns t c).kept.same-stack
-
-pub conditional-shape_of-out : goal.conditional-shape_of-out
-conditional-shape_of-out t c = (conditional-returns t c).kept.same_out
+conditional-shape_of-stack t c = (conditional-returns-clause-answers t c).kept.same-stack
 
 -- what it has done where it returns
-pub expression-returns-then-kind-lt-KIND_FUNCTION : goal.expression-returns-then-kind-lt-KIND_FUNCTION
-expression-returns-then-kind-lt-KIND_FUNCTION t c =
+pub expression-returns-then-kind-lt-KIND_FUNCTION-clause-answers : goal.expression-returns-then-kind-lt-KIND_FUNCTION-clause-answers
+expression-returns-then-kind-lt-KIND_FUNCTION-clause-answers t c =
     answer-as (λ n h e. leaf-of n h (λ z. c.in_default.in_default-own.rest.0.0.1 (c.kind_at-kind.ensures ∙ (sym e ∙ z))) (λ z. c.in_default.in_default-own.rest.0.1 (c.kind_at-kind.ensures ∙ (sym e ∙ z)))
     (λ z. c.in_default.in_default-own.rest.1 (c.kind_at-kind.ensures ∙ (sym e ∙ z))) (omega (arith, e, c.kind_at-kind.ensures, c.if-kind-lt-KIND_FUNCTION.true)))
     (answers-leaf (ask-as (λ n h e. leaf-of n h (λ z. c.in_default.in_default-own.rest.0.0.1 (c.kind_at-kind.ensures ∙ (sym e ∙ z)))
     (λ z. c.in_default.in_default-own.rest.0.1 (c.kind_at-kind.ensures ∙ (sym e ∙ z)))
     (λ z. c.in_default.in_default-own.rest.1 (c.kind_at-kind.ensures ∙ (sym e ∙ z))) (omega (arith, e, c.kind_at-kind.ensures, c.if-kind-lt-KIND_FUNCTION.true)))
     c.requires) c.kind_at-kind.ensures c.a_at.ensures
-    c.b_at.ensures c.known_of-k.ensures c.leaf_type.ensures c.leaf.ensures c.finish.ensures)
+    c.b_at.ensures c.known_of-k.ensures c.leaf_type.ensures c.leaf-done.ensures c.finish.ensures)
 
 pub expression-kind_at-kind-requires : goal.expression-kind_at-kind-requires
 expression-kind_at-kind-requires t c = omega (arith, (asked c.requires).long)
@@ -716,15 +651,15 @@ expression-bounds-stack-depth t c = omega (arith, (asked c.requires).deep, (aske
 pub expression-b_at-requires : goal.expression-b_at-requires
 expression-b_at-requires t c = omega (arith, (asked c.requires).long)
 
-pub expression-leaf-requires : goal.expression-leaf-requires
-expression-leaf-requires t c = asks-leaf (ask-as (λ n h e. leaf-of n h (λ z. c.in_default.in_default-own.rest.0.0.1 (c.kind_at-kind.ensures ∙ (sym e ∙ z)))
+pub expression-leaf-done-requires : goal.expression-leaf-done-requires
+expression-leaf-done-requires t c = asks-leaf (ask-as (λ n h e. leaf-of n h (λ z. c.in_default.in_default-own.rest.0.0.1 (c.kind_at-kind.ensures ∙ (sym e ∙ z)))
     (λ z. c.in_default.in_default-own.rest.0.1 (c.kind_at-kind.ensures ∙ (sym e ∙ z))) (λ z. c.in_default.in_default-own.rest.1 (c.kind_at-kind.ensures ∙ (sym e ∙ z)))
     (omega (arith, e, c.kind_at-kind.ensures, c.if-kind-lt-KIND_FUNCTION.true))) c.requires)
 
 pub expression-finish-requires : goal.expression-finish-requires
 expression-finish-requires t c = asks-leaf-finish (ask-as (λ n h e. leaf-of n h (λ z. c.in_default.in_default-own.rest.0.0.1 (c.kind_at-kind.ensures ∙ (sym e ∙ z)))
     (λ z. c.in_default.in_default-own.rest.0.1 (c.kind_at-kind.ensures ∙ (sym e ∙ z))) (λ z. c.in_default.in_default-own.rest.1 (c.kind_at-kind.ensures ∙ (sym e ∙ z)))
-    (omega (arith, e, c.kind_at-kind.ensures, c.if-kind-lt-KIND_FUNCTION.true))) c.requires) c.leaf.ensures.0
+    (omega (arith, e, c.kind_at-kind.ensures, c.if-kind-lt-KIND_FUNCTION.true))) c.requires) c.leaf-done.ensures.0
 
 pub expression-simple-requires : goal.expression-simple-requires
 expression-simple-requires t c = (
@@ -734,180 +669,109 @@ expression-simple-requires t c = (
       (omega (arith, e, c.kind_at-kind.ensures, c.if-kind-lt-KIND_FUNCTION.false))) c.requires),
 )
 
-pub expression-shape_of-env-in-49 : goal.expression-shape_of-env-in-49
-expression-shape_of-env-in-49 t c = c.pair.ensures.kept.same-env
-
-pub expression-shape_of-ends-in-49 : goal.expression-shape_of-ends-in-49
-expression-shape_of-ends-in-49 t c = c.pair.ensures.kept.same_ends
-
 pub expression-shape_of-stack-in-49 : goal.expression-shape_of-stack-in-49
-expression-shape_of-stack-in-49 t c = c.pair.ensures.kept.same-stack
+expression-shape_of-stack-in-49 t c = c.pair.ensures.answers.kept.same-stack
 
-pub expression-shape_of-out-in-49 : goal.expression-shape_of-out-in-49
-expression-shape_of-out-in-49 t c = c.pair.ensures.kept.same_out
-
-pub expression-returns-in-49 : goal.expression-returns-in-49
-expression-returns-in-49 t c = answer-as (λ n h e. e ∙ (sym c.kind_at-kind.ensures ∙ c.in-49.is)) c.pair.ensures
-
-pub expression-shape_of-env-in-50 : goal.expression-shape_of-env-in-50
-expression-shape_of-env-in-50 t c = c.conditional.ensures.kept.same-env
-
-pub expression-shape_of-ends-in-50 : goal.expression-shape_of-ends-in-50
-expression-shape_of-ends-in-50 t c = c.conditional.ensures.kept.same_ends
+pub expression-returns-in-49-clause-answers : goal.expression-returns-in-49-clause-answers
+expression-returns-in-49-clause-answers t c = answer-as (λ n h e. e ∙ (sym c.kind_at-kind.ensures ∙ c.in-49.is)) c.pair.ensures.answers
 
 pub expression-shape_of-stack-in-50 : goal.expression-shape_of-stack-in-50
-expression-shape_of-stack-in-50 t c = c.conditional.ensures.kept.same-stack
+expression-shape_of-stack-in-50 t c = c.conditional.ensures.answers.kept.same-stack
 
-pub expression-shape_of-out-in-50 : goal.expression-shape_of-out-in-50
-expression-shape_of-out-in-50 t c = c.conditional.ensures.kept.same_out
-
-pub expression-returns-in-50 : goal.expression-returns-in-50
-expression-returns-in-50 t c = answer-as (λ n h e. e ∙ (sym c.kind_at-kind.ensures ∙ c.in-50.is)) c.conditional.ensures
-
-pub expression-shape_of-env-in-53 : goal.expression-shape_of-env-in-53
-expression-shape_of-env-in-53 t c = c.body.ensures.kept.same-env
-
-pub expression-shape_of-ends-in-53 : goal.expression-shape_of-ends-in-53
-expression-shape_of-ends-in-53 t c = c.body.ensures.kept.same_ends
+pub expression-returns-in-50-clause-answers : goal.expression-returns-in-50-clause-answers
+expression-returns-in-50-clause-answers t c = answer-as (λ n h e. e ∙ (sym c.kind_at-kind.ensures ∙ c.in-50.is)) c.conditional.ensures.answers
 
 pub expression-shape_of-stack-in-53 : goal.expression-shape_of-stack-in-53
-expression-shape_of-stack-in-53 t c = c.body.ensures.kept.same-stack
+expression-shape_of-stack-in-53 t c = c.body.ensures.answers.kept.same-stack
 
-pub expression-shape_of-out-in-53 : goal.expression-shape_of-out-in-53
-expression-shape_of-out-in-53 t c = c.body.ensures.kept.same_out
-
-pub expression-returns-in-53 : goal.expression-returns-in-53
-expression-returns-in-53 t c = answer-as (λ n h e. e ∙ (sym c.kind_at-kind.ensures ∙ c.in-53.is)) c.body.ensures
-
-pub expression-shape_of-env-then-kind-lt-KIND_FUNCTION : goal.expression-shape_of-env-then-kind-lt-KIND_FUNCTION
-expression-shape_of-env-then-kind-lt-KIND_FUNCTION t c = (expression-returns-then-kind-lt-KIND_FUNCTION t c).kept.same-env
-
-pub expression-shape_of-ends-then-kind-lt-KIND_FUNCTION : goal.expression-shape_of-ends-then-kind-lt-KIND_FUNCTION
-expression-shape_of-ends-then-kind-lt-KIND_FUNCTION t c = (expression-returns-then-kind-lt-KIND_FUNCTION t c).kept.same_ends
+pub expression-returns-in-53-clause-answers : goal.expression-returns-in-53-clause-answers
+expression-returns-in-53-clause-answers t c = answer-as (λ n h e. e ∙ (sym c.kind_at-kind.ensures ∙ c.in-53.is)) c.body.ensures.answers
 
 pub expression-shape_of-stack-then-kind-lt-KIND_FUNCTION : goal.expression-shape_of-stack-then-kind-lt-KIND_FUNCTION
-expression-shape_of-stack-then-kind-lt-KIND_FUNCTION t c = (expression-returns-then-kind-lt-KIND_FUNCTION t c).kept.same-stack
-
-pub expression-shape_of-out-then-kind-lt-KIND_FUNCTION : goal.expression-shape_of-out-then-kind-lt-KIND_FUNCTION
-expression-shape_of-out-then-kind-lt-KIND_FUNCTION t c = (expression-returns-then-kind-lt-KIND_FUNCTION t c).kept.same_out
-
-pub expression-shape_of-env-else-kind-lt-KIND_FUNCTION : goal.expression-shape_of-env-else-kind-lt-KIND_FUNCTION
-expression-shape_of-env-else-kind-lt-KIND_FUNCTION t c = c.simple.ensures.kept.same-env
-
-pub expression-shape_of-ends-else-kind-lt-KIND_FUNCTION : goal.expression-shape_of-ends-else-kind-lt-KIND_FUNCTION
-expression-shape_of-ends-else-kind-lt-KIND_FUNCTION t c = c.simple.ensures.kept.same_ends
+expression-shape_of-stack-then-kind-lt-KIND_FUNCTION t c = (expression-returns-then-kind-lt-KIND_FUNCTION-clause-answers t c).kept.same-stack
 
 pub expression-shape_of-stack-else-kind-lt-KIND_FUNCTION : goal.expression-shape_of-stack-else-kind-lt-KIND_FUNCTION
-expression-shape_of-stack-else-kind-lt-KIND_FUNCTION t c = c.simple.ensures.kept.same-stack
+expression-shape_of-stack-else-kind-lt-KIND_FUNCTION t c = c.simple.ensures.answers.kept.same-stack
 
-pub expression-shape_of-out-else-kind-lt-KIND_FUNCTION : goal.expression-shape_of-out-else-kind-lt-KIND_FUNCTION
-expression-shape_of-out-else-kind-lt-KIND_FUNCTION t c = c.simple.ensures.kept.same_out
-
-pub expression-returns-else-kind-lt-KIND_FUNCTION : goal.expression-returns-else-kind-lt-KIND_FUNCTION
-expression-returns-else-kind-lt-KIND_FUNCTION t c = answer-as (λ n h e. simple-expr n h (λ z. c.in_default.in_default-own.rest.0.0.1 (c.kind_at-kind.ensures ∙ (sym e ∙ z)))
+pub expression-returns-else-kind-lt-KIND_FUNCTION-clause-answers : goal.expression-returns-else-kind-lt-KIND_FUNCTION-clause-answers
+expression-returns-else-kind-lt-KIND_FUNCTION-clause-answers t c = answer-as (λ n h e. simple-expr n h (λ z. c.in_default.in_default-own.rest.0.0.1 (c.kind_at-kind.ensures ∙ (sym e ∙ z)))
     (λ z. c.in_default.in_default-own.rest.0.1 (c.kind_at-kind.ensures ∙ (sym e ∙ z))) (λ z. c.in_default.in_default-own.rest.1 (c.kind_at-kind.ensures ∙ (sym e ∙ z)))
-    (omega (arith, e, c.kind_at-kind.ensures, c.if-kind-lt-KIND_FUNCTION.false))) (answers-anew _ c.simple.ensures)
+    (omega (arith, e, c.kind_at-kind.ensures, c.if-kind-lt-KIND_FUNCTION.false))) (answers-anew _ c.simple.ensures.answers)
 
-pub items-loop-left-init : goal.items-loop-left-init
-items-loop-left-init t c = items-start _ _ _ _ _ _ _ _ _ _ _ _ _
+pub items-loop-i-init : goal.items-loop-i-init
+items-loop-i-init t c =
+    let e : c.args.count - 0 ≡ c.args.count = omega arith in
+    record { same = search rules; far = rw e (items-start _ _ _ _ _ _ _ _ _ _ _ _ _) }
 
 pub items-statement-p-requires : goal.items-statement-p-requires
-items-statement-p-requires t c = (omega (arith, c.decreases), items-asks c.loop-left.invariant c.loop-left-test.true c.requires)
+items-statement-p-requires t c = (omega (arith, c.decreases), items-asks c.loop-i.invariant.far (omega arith) c.requires)
 
 pub items-size_at-n-requires : goal.items-size_at-n-requires
-items-size_at-n-requires t c = (items-passes c.loop-left.invariant c.loop-left-test.true c.requires _ refl).known
+items-size_at-n-requires t c = (items-passes c.loop-i.invariant.far (omega arith) c.requires _ refl).known
 
 pub items-overflow_mul-from : goal.items-overflow_mul-from
-items-overflow_mul-from t c = omega (arith, (items-passes c.loop-left.invariant c.loop-left-test.true c.requires c.size_at-n.result c.size_at-n.ensures).small)
+items-overflow_mul-from t c = omega (arith, (items-passes c.loop-i.invariant.far (omega arith) c.requires c.size_at-n.result c.size_at-n.ensures).small)
 
 pub items-slice_bounds-rest-count : goal.items-slice_bounds-rest-count
-items-slice_bounds-rest-count t c = (items-passes c.loop-left.invariant c.loop-left-test.true c.requires c.size_at-n.result c.size_at-n.ensures).fits
+items-slice_bounds-rest-count t c = (items-passes c.loop-i.invariant.far (omega arith) c.requires c.size_at-n.result c.size_at-n.ensures).fits
 
 pub items-slice_bounds-rest-start : goal.items-slice_bounds-rest-start
-items-slice_bounds-rest-start t c = (items-passes c.loop-left.invariant c.loop-left-test.true c.requires c.size_at-n.result c.size_at-n.ensures).fits
+items-slice_bounds-rest-start t c = (items-passes c.loop-i.invariant.far (omega arith) c.requires c.size_at-n.result c.size_at-n.ensures).fits
 
 pub items-overflow_add-place : goal.items-overflow_add-place
-items-overflow_add-place t c = omega (arith, (items-passes c.loop-left.invariant c.loop-left-test.true c.requires c.size_at-n.result c.size_at-n.ensures).small)
+items-overflow_add-place t c = omega (arith, (items-passes c.loop-i.invariant.far (omega arith) c.requires c.size_at-n.result c.size_at-n.ensures).small)
 
-pub items-overflow_sub-left : goal.items-overflow_sub-left
-items-overflow_sub-left t c = omega (arith, c.loop-left-test.true)
-
-pub items-loop-left-smaller : goal.items-loop-left-smaller
-items-loop-left-smaller t c = omega (arith, c.loop-left-test.true)
-
-pub items-loop-left-preserved : goal.items-loop-left-preserved
-items-loop-left-preserved t c = items-next c.loop-left.invariant c.loop-left-test.true c.statement-p.ensures c.size_at-n.result c.size_at-n.ensures
-
-pub items-shape_of-env : goal.items-shape_of-env
-items-shape_of-env t c = (items-end c.loop-left.invariant (omega arith)).kept.same-env
-
-pub items-shape_of-ends : goal.items-shape_of-ends
-items-shape_of-ends t c = (items-end c.loop-left.invariant (omega arith)).kept.same_ends
+pub items-loop-i-preserved : goal.items-loop-i-preserved
+items-loop-i-preserved t c =
+    let e : c.args.count - (c.loop-i.i + 1) ≡ c.args.count - c.loop-i.i - 1 = omega arith in
+    record { same = search rules; far = rw e (items-next c.loop-i.invariant.far (omega arith) c.statement-p.ensures.answers c.size_at-n.result c.size_at-n.ensures) }
 
 pub items-shape_of-stack : goal.items-shape_of-stack
-items-shape_of-stack t c = (items-end c.loop-left.invariant (omega arith)).kept.same-stack
+items-shape_of-stack t c = (items-end c.loop-i.invariant.far (omega arith)).kept.same-stack
 
-pub items-shape_of-out : goal.items-shape_of-out
-items-shape_of-out t c = (items-end c.loop-left.invariant (omega arith)).kept.same_out
-
-pub items-returns : goal.items-returns
-items-returns t c = items-end c.loop-left.invariant (omega arith)
+pub items-returns-clause-answers : goal.items-returns-clause-answers
+items-returns-clause-answers t c = items-end c.loop-i.invariant.far (omega arith)
 
 pub operands-loop-i-init : goal.operands-loop-i-init
-operands-loop-i-init t c = es-start _ _ _ _ _ _ _ _ _ _ _ _ _
+operands-loop-i-init t c = record { same = search rules; far = es-start _ _ _ _ _ _ _ _ _ _ _ _ _ }
 
 pub operands-overflow_add-depth : goal.operands-overflow_add-depth
-operands-overflow_add-depth t c = omega (arith, (asked (es-asks c.loop-i.invariant c.loop-i-test.true c.requires)).deep)
+operands-overflow_add-depth t c = omega (arith, (asked (es-asks c.loop-i.invariant.far (omega arith) c.requires)).deep)
 
 pub operands-expression-p-requires : goal.operands-expression-p-requires
-operands-expression-p-requires t c = (omega (arith, c.decreases), es-asks c.loop-i.invariant c.loop-i-test.true c.requires)
+operands-expression-p-requires t c = (omega (arith, c.decreases), es-asks c.loop-i.invariant.far (omega arith) c.requires)
 
 pub operands-size_at-n-requires : goal.operands-size_at-n-requires
-operands-size_at-n-requires t c = (es-passes c.loop-i.invariant c.loop-i-test.true c.requires _ refl).known
+operands-size_at-n-requires t c = (es-passes c.loop-i.invariant.far (omega arith) c.requires _ refl).known
 
 pub operands-overflow_mul-from : goal.operands-overflow_mul-from
-operands-overflow_mul-from t c = omega (arith, (es-passes c.loop-i.invariant c.loop-i-test.true c.requires c.size_at-n.result c.size_at-n.ensures).small)
+operands-overflow_mul-from t c = omega (arith, (es-passes c.loop-i.invariant.far (omega arith) c.requires c.size_at-n.result c.size_at-n.ensures).small)
 
 pub operands-slice_bounds-rest-count : goal.operands-slice_bounds-rest-count
-operands-slice_bounds-rest-count t c = (es-passes c.loop-i.invariant c.loop-i-test.true c.requires c.size_at-n.result c.size_at-n.ensures).fits
+operands-slice_bounds-rest-count t c = (es-passes c.loop-i.invariant.far (omega arith) c.requires c.size_at-n.result c.size_at-n.ensures).fits
 
 pub operands-slice_bounds-rest-start : goal.operands-slice_bounds-rest-start
-operands-slice_bounds-rest-start t c = (es-passes c.loop-i.invariant c.loop-i-test.true c.requires c.size_at-n.result c.size_at-n.ensures).fits
+operands-slice_bounds-rest-start t c = (es-passes c.loop-i.invariant.far (omega arith) c.requires c.size_at-n.result c.size_at-n.ensures).fits
 
 pub operands-overflow_add-place : goal.operands-overflow_add-place
-operands-overflow_add-place t c = omega (arith, (es-passes c.loop-i.invariant c.loop-i-test.true c.requires c.size_at-n.result c.size_at-n.ensures).small)
-
-pub operands-overflow_add-i : goal.operands-overflow_add-i
-operands-overflow_add-i t c = omega (arith, (asked (es-asks c.loop-i.invariant c.loop-i-test.true c.requires)).deep)
-
-pub operands-loop-i-smaller : goal.operands-loop-i-smaller
-operands-loop-i-smaller t c = omega (arith, c.loop-i-test.true)
+operands-overflow_add-place t c = omega (arith, (es-passes c.loop-i.invariant.far (omega arith) c.requires c.size_at-n.result c.size_at-n.ensures).small)
 
 pub operands-loop-i-preserved : goal.operands-loop-i-preserved
-operands-loop-i-preserved t c = es-next c.loop-i.invariant c.loop-i-test.true c.expression-p.ensures c.size_at-n.result c.size_at-n.ensures
-
-pub operands-shape_of-env : goal.operands-shape_of-env
-operands-shape_of-env t c = (es-end c.loop-i.invariant (omega arith)).kept.same-env
-
-pub operands-shape_of-ends : goal.operands-shape_of-ends
-operands-shape_of-ends t c = (es-end c.loop-i.invariant (omega arith)).kept.same_ends
+operands-loop-i-preserved t c = record { same = search rules; far = es-next c.loop-i.invariant.far (omega arith) c.expression-p.ensures.answers c.size_at-n.result c.size_at-n.ensures }
 
 pub operands-shape_of-stack : goal.operands-shape_of-stack
-operands-shape_of-stack t c = (es-end c.loop-i.invariant (omega arith)).kept.same-stack
+operands-shape_of-stack t c = (es-end c.loop-i.invariant.far (omega arith)).kept.same-stack
 
-pub operands-shape_of-out : goal.operands-shape_of-out
-operands-shape_of-out t c = (es-end c.loop-i.invariant (omega arith)).kept.same_out
-
-pub operands-returns : goal.operands-returns
-operands-returns t c = es-end c.loop-i.invariant (omega arith)
+pub operands-returns-clause-answers : goal.operands-returns-clause-answers
+operands-returns-clause-answers t c = es-end c.loop-i.invariant.far (omega arith)
 
 -- what it has done where it returns
-pub pair-returns : goal.pair-returns
-pair-returns t c =
-    answers-pair c.requires c.size_at.result c.size_at.ensures c.expression-p.ensures c.a_at-operator.ensures
+pub pair-returns-clause-answers : goal.pair-returns-clause-answers
+pair-returns-clause-answers t c =
+    answers-pair c.requires c.size_at.result c.size_at.ensures c.expression-p.ensures.answers c.a_at-operator.ensures
     c.end_of-end.ensures.0 c.way_of-way.ensures c.between-q.ensures (c.args.depth + c.waiting.result)
     (ap (λ (k : ℕ). c.args.depth + k) c.waiting.ensures)
-    c.expression-r.ensures c.pair_type.ensures c.behind.ensures c.finish.ensures
+    c.expression-r.ensures.answers c.pair_type.ensures c.behind-done.ensures c.finish.ensures
 
 pub pair-a_at-operator-requires : goal.pair-a_at-operator-requires
 pair-a_at-operator-requires t c = omega (arith, (asked c.requires).long)
@@ -940,10 +804,10 @@ pub pair-overflow_add-second-2 : goal.pair-overflow_add-second-2
 pair-overflow_add-second-2 t c = omega (arith, (asks-pair-passes c.requires c.size_at.result c.size_at.ensures).small)
 
 pub pair-bounds-stack-depth : goal.pair-bounds-stack-depth
-pair-bounds-stack-depth t c = asks-pair-read c.requires c.size_at.result c.size_at.ensures c.expression-p.ensures
+pair-bounds-stack-depth t c = asks-pair-read c.requires c.size_at.result c.size_at.ensures c.expression-p.ensures.answers
 
 pub pair-between-q-requires : goal.pair-between-q-requires
-pair-between-q-requires t c = let z = asks-pair-between c.requires c.size_at.result c.size_at.ensures c.expression-p.ensures c.a_at-operator.ensures
+pair-between-q-requires t c = let z = asks-pair-between c.requires c.size_at.result c.size_at.ensures c.expression-p.ensures.answers c.a_at-operator.ensures
     c.end_of-end.ensures.0 c.way_of-way.ensures in (c.end_of-end.ensures.1, z.0, z.1, z.2, z.3)
 
 pub pair-overflow_mul-from : goal.pair-overflow_mul-from
@@ -963,7 +827,7 @@ pair-overflow_sub-nesting-2 t c = omega (arith, (asked c.requires).nested)
 pub pair-overflow_add-depth : goal.pair-overflow_add-depth
 pair-overflow_add-depth t c = omega (
   arith,
-  (asked (asks-pair-second c.requires c.size_at.result c.size_at.ensures c.expression-p.ensures c.a_at-operator.ensures
+  (asked (asks-pair-second c.requires c.size_at.result c.size_at.ensures c.expression-p.ensures.answers c.a_at-operator.ensures
       c.end_of-end.ensures.0 c.way_of-way.ensures c.between-q.ensures (c.args.depth + c.waiting.result)
       (ap (λ (k : ℕ). c.args.depth + k) c.waiting.ensures))).deep,
 )
@@ -971,48 +835,39 @@ pair-overflow_add-depth t c = omega (
 pub pair-expression-r-requires : goal.pair-expression-r-requires
 pair-expression-r-requires t c = (
   omega (arith, (asked c.requires).nested, c.decreases),
-  asks-pair-second c.requires c.size_at.result c.size_at.ensures c.expression-p.ensures c.a_at-operator.ensures
+  asks-pair-second c.requires c.size_at.result c.size_at.ensures c.expression-p.ensures.answers c.a_at-operator.ensures
       c.end_of-end.ensures.0 c.way_of-way.ensures c.between-q.ensures (c.args.depth + c.waiting.result)
       (ap (λ (k : ℕ). c.args.depth + k) c.waiting.ensures),
 )
 
 pub pair-bounds-stack-depth-2 : goal.pair-bounds-stack-depth-2
-pair-bounds-stack-depth-2 t c = asks-pair-write c.requires c.size_at.result c.size_at.ensures c.expression-p.ensures c.a_at-operator.ensures
+pair-bounds-stack-depth-2 t c = asks-pair-write c.requires c.size_at.result c.size_at.ensures c.expression-p.ensures.answers c.a_at-operator.ensures
     c.end_of-end.ensures.0 c.way_of-way.ensures c.between-q.ensures (c.args.depth + c.waiting.result)
     (ap (λ (k : ℕ). c.args.depth + k) c.waiting.ensures)
-    c.expression-r.ensures
+    c.expression-r.ensures.answers
 
-pub pair-behind-requires : goal.pair-behind-requires
-pair-behind-requires t c = let z = asks-pair-behind c.requires c.size_at.result c.size_at.ensures c.expression-p.ensures c.a_at-operator.ensures
+pub pair-behind-done-requires : goal.pair-behind-done-requires
+pair-behind-done-requires t c = let z = asks-pair-behind c.requires c.size_at.result c.size_at.ensures c.expression-p.ensures.answers c.a_at-operator.ensures
     c.end_of-end.ensures.0 c.way_of-way.ensures c.between-q.ensures (c.args.depth + c.waiting.result)
     (ap (λ (k : ℕ). c.args.depth + k) c.waiting.ensures)
-    c.expression-r.ensures c.pair_type.ensures in (c.end_of-end.ensures.1, z.0, z.1, z.2, z.3)
+    c.expression-r.ensures.answers c.pair_type.ensures in (c.end_of-end.ensures.1, z.0, z.1, z.2, z.3)
 
 pub pair-finish-requires : goal.pair-finish-requires
-pair-finish-requires t c = asks-pair-finish c.requires c.size_at.result c.size_at.ensures c.expression-p.ensures c.a_at-operator.ensures
+pair-finish-requires t c = asks-pair-finish c.requires c.size_at.result c.size_at.ensures c.expression-p.ensures.answers c.a_at-operator.ensures
     c.end_of-end.ensures.0 c.way_of-way.ensures c.between-q.ensures (c.args.depth + c.waiting.result)
     (ap (λ (k : ℕ). c.args.depth + k) c.waiting.ensures)
-    c.expression-r.ensures c.pair_type.ensures c.behind.ensures
-
-pub pair-shape_of-env : goal.pair-shape_of-env
-pair-shape_of-env t c = (pair-returns t c).kept.same-env
-
-pub pair-shape_of-ends : goal.pair-shape_of-ends
-pair-shape_of-ends t c = (pair-returns t c).kept.same_ends
+    c.expression-r.ensures.answers c.pair_type.ensures c.behind-done.ensures
 
 pub pair-shape_of-stack : goal.pair-shape_of-stack
-pair-shape_of-stack t c = (pair-returns t c).kept.same-stack
-
-pub pair-shape_of-out : goal.pair-shape_of-out
-pair-shape_of-out t c = (pair-returns t c).kept.same_out
+pair-shape_of-stack t c = (pair-returns-clause-answers t c).kept.same-stack
 
 -- what it has done where it returns
-pub repeat-returns : goal.repeat-returns
-repeat-returns t c =
+pub repeat-returns-clause-answers : goal.repeat-returns-clause-answers
+repeat-returns-clause-answers t c =
     answers-while c.requires c.shape-p.ensures c.size_at.result c.size_at.ensures
-    c.expression-q.ensures c.end_of.ensures.0 c.emit-r.ensures c.statement-s.ensures refl
+    c.expression-q.ensures.answers c.end_of.ensures.0 c.emit-r.ensures c.statement-s.ensures.answers refl
     c.emit-t.ensures
-    c.shape.ensures c.finish.ensures
+    c.shape-done.ensures c.finish.ensures
 
 pub repeat-overflow_cast-start : goal.repeat-overflow_cast-start
 repeat-overflow_cast-start t c = omega (arith, (asked c.requires).address)
@@ -1051,7 +906,7 @@ pub repeat-overflow_add-end_of : goal.repeat-overflow_add-end_of
 repeat-overflow_add-end_of t c = omega (arith, c.end_of.ensures.1)
 
 pub repeat-emit-r-requires : goal.repeat-emit-r-requires
-repeat-emit-r-requires t c = asks-while-emit c.requires c.shape-p.ensures c.size_at.result c.size_at.ensures c.expression-q.ensures
+repeat-emit-r-requires t c = asks-while-emit c.requires c.shape-p.ensures c.size_at.result c.size_at.ensures c.expression-q.ensures.answers
 
 pub repeat-overflow_mul-from : goal.repeat-overflow_mul-from
 repeat-overflow_mul-from t c = omega (arith, (asks-while-passes c.requires c.shape-p.ensures c.size_at.result c.size_at.ensures).small)
@@ -1071,40 +926,31 @@ pub repeat-statement-s-requires : goal.repeat-statement-s-requires
 repeat-statement-s-requires t c = (
   omega (arith, (asked c.requires).nested, c.decreases),
   asks-while-second c.requires c.shape-p.ensures c.size_at.result c.size_at.ensures
-      c.expression-q.ensures c.end_of.ensures.0 c.emit-r.ensures,
+      c.expression-q.ensures.answers c.end_of.ensures.0 c.emit-r.ensures,
 )
 
 pub repeat-emit-t-requires : goal.repeat-emit-t-requires
 repeat-emit-t-requires t c = asks-while-emit₂ c.requires c.shape-p.ensures c.size_at.result c.size_at.ensures
-    c.expression-q.ensures c.end_of.ensures.0 c.emit-r.ensures c.statement-s.ensures
+    c.expression-q.ensures.answers c.end_of.ensures.0 c.emit-r.ensures c.statement-s.ensures.answers
 
-pub repeat-shape-requires : goal.repeat-shape-requires
-repeat-shape-requires t c = asks-while-shape₂ c.requires c.shape-p.ensures c.size_at.result c.size_at.ensures c.expression-q.ensures
-    c.end_of.ensures.0 c.emit-r.ensures c.statement-s.ensures refl c.emit-t.ensures
+pub repeat-shape-done-requires : goal.repeat-shape-done-requires
+repeat-shape-done-requires t c = asks-while-shape₂ c.requires c.shape-p.ensures c.size_at.result c.size_at.ensures c.expression-q.ensures.answers
+    c.end_of.ensures.0 c.emit-r.ensures c.statement-s.ensures.answers refl c.emit-t.ensures
 
 pub repeat-finish-requires : goal.repeat-finish-requires
-repeat-finish-requires t c = asks-while-finish c.requires c.shape-p.ensures c.size_at.result c.size_at.ensures c.expression-q.ensures
-    c.end_of.ensures.0 c.emit-r.ensures c.statement-s.ensures refl c.emit-t.ensures
-    c.shape.ensures
-
-pub repeat-shape_of-env : goal.repeat-shape_of-env
-repeat-shape_of-env t c = (repeat-returns t c).kept.same-env
-
-pub repeat-shape_of-ends : goal.repeat-shape_of-ends
-repeat-shape_of-ends t c = (repeat-returns t c).kept.same_ends
+repeat-finish-requires t c = asks-while-finish c.requires c.shape-p.ensures c.size_at.result c.size_at.ensures c.expression-q.ensures.answers
+    c.end_of.ensures.0 c.emit-r.ensures c.statement-s.ensures.answers refl c.emit-t.ensures
+    c.shape-done.ensures
 
 pub repeat-shape_of-stack : goal.repeat-shape_of-stack
-repeat-shape_of-stack t c = (repeat-returns t c).kept.same-stack
-
-pub repeat-shape_of-out : goal.repeat-shape_of-out
-repeat-shape_of-out t c = (repeat-returns t c).kept.same_out
+repeat-shape_of-stack t c = (repeat-returns-clause-answers t c).kept.same-stack
 
 -- what it has done where it returns
-pub select-returns : goal.select-returns
-select-returns t c =
-    answers_select c.requires c.size_at.result c.size_at.ensures c.expression-p.ensures
+pub select-returns-clause-answers : goal.select-returns-clause-answers
+select-returns-clause-answers t c =
+    answers_select c.requires c.size_at.result c.size_at.ensures c.expression-p.ensures.answers
     c.a_at-count.ensures (c.second_in-cell.ensures ∙ ap second_in c.known_at.ensures)
-    c.emit-q.ensures c.arms-r.ensures c.emit-s.ensures c.shape.ensures
+    c.emit-q.ensures c.arms-r.ensures.answers c.emit-s.ensures c.shape-done.ensures
     c.finish.ensures
 
 pub select-a_at-count-requires : goal.select-a_at-count-requires
@@ -1126,7 +972,7 @@ pub select-expression-p-requires : goal.select-expression-p-requires
 select-expression-p-requires t c = (omega (arith, (asked c.requires).nested, c.decreases), asks-select-first c.requires)
 
 pub select-emit-q-requires : goal.select-emit-q-requires
-select-emit-q-requires t c = asks-select-emit c.requires _ refl c.expression-p.ensures
+select-emit-q-requires t c = asks-select-emit c.requires _ refl c.expression-p.ensures.answers
 
 pub select-overflow_add-second : goal.select-overflow_add-second
 select-overflow_add-second t c = omega (arith, (asked c.requires).small)
@@ -1157,39 +1003,30 @@ select-overflow_sub-nesting-2 t c = omega (arith, (asked c.requires).nested)
 pub select-arms-r-requires : goal.select-arms-r-requires
 select-arms-r-requires t c = (
   omega (arith, (asked c.requires).nested, c.decreases),
-  asks-select-second c.requires c.size_at.result c.size_at.ensures c.expression-p.ensures c.a_at-count.ensures
+  asks-select-second c.requires c.size_at.result c.size_at.ensures c.expression-p.ensures.answers c.a_at-count.ensures
       (c.second_in-cell.ensures ∙ ap second_in c.known_at.ensures) c.emit-q.ensures,
 )
 
 pub select-emit-s-requires : goal.select-emit-s-requires
-select-emit-s-requires t c = asks-select-emit₂ c.requires c.size_at.result c.size_at.ensures c.expression-p.ensures c.a_at-count.ensures
-    (c.second_in-cell.ensures ∙ ap second_in c.known_at.ensures) c.emit-q.ensures c.arms-r.ensures
+select-emit-s-requires t c = asks-select-emit₂ c.requires c.size_at.result c.size_at.ensures c.expression-p.ensures.answers c.a_at-count.ensures
+    (c.second_in-cell.ensures ∙ ap second_in c.known_at.ensures) c.emit-q.ensures c.arms-r.ensures.answers
 
-pub select-shape-requires : goal.select-shape-requires
-select-shape-requires t c = asks-select-shape c.requires c.size_at.result c.size_at.ensures c.expression-p.ensures c.a_at-count.ensures
-    (c.second_in-cell.ensures ∙ ap second_in c.known_at.ensures) c.emit-q.ensures c.arms-r.ensures c.emit-s.ensures
+pub select-shape-done-requires : goal.select-shape-done-requires
+select-shape-done-requires t c = asks-select-shape c.requires c.size_at.result c.size_at.ensures c.expression-p.ensures.answers c.a_at-count.ensures
+    (c.second_in-cell.ensures ∙ ap second_in c.known_at.ensures) c.emit-q.ensures c.arms-r.ensures.answers c.emit-s.ensures
 
 pub select-finish-requires : goal.select-finish-requires
-select-finish-requires t c = asks-select-finish c.requires c.size_at.result c.size_at.ensures c.expression-p.ensures c.a_at-count.ensures
-    (c.second_in-cell.ensures ∙ ap second_in c.known_at.ensures) c.emit-q.ensures c.arms-r.ensures c.emit-s.ensures c.shape.ensures
-
-pub select-shape_of-env : goal.select-shape_of-env
-select-shape_of-env t c = (select-returns t c).kept.same-env
-
-pub select-shape_of-ends : goal.select-shape_of-ends
-select-shape_of-ends t c = (select-returns t c).kept.same_ends
+select-finish-requires t c = asks-select-finish c.requires c.size_at.result c.size_at.ensures c.expression-p.ensures.answers c.a_at-count.ensures
+    (c.second_in-cell.ensures ∙ ap second_in c.known_at.ensures) c.emit-q.ensures c.arms-r.ensures.answers c.emit-s.ensures c.shape-done.ensures
 
 pub select-shape_of-stack : goal.select-shape_of-stack
-select-shape_of-stack t c = (select-returns t c).kept.same-stack
-
-pub select-shape_of-out : goal.select-shape_of-out
-select-shape_of-out t c = (select-returns t c).kept.same_out
+select-shape_of-stack t c = (select-returns-clause-answers t c).kept.same-stack
 
 -- what it has done where it returns
-pub simple-returns : goal.simple-returns
-simple-returns t c =
+pub simple-returns-clause-answers : goal.simple-returns-clause-answers
+simple-returns-clause-answers t c =
     answers-simple c.requires c.kind_at-kind.ensures c.a_at-a.ensures c.b_at.ensures
-    c.operands_of-count.ensures c.operands-p.ensures c.known_of-k.ensures c.last.ensures
+    c.operands_of-count.ensures c.operands-p.ensures.answers c.known_of-k.ensures c.last-done.ensures
     c.last_type.ensures c.finish.ensures
 
 pub simple-kind_at-kind-requires : goal.simple-kind_at-kind-requires
@@ -1222,47 +1059,38 @@ simple-operands-p-requires t c = (
 
 pub simple-known_of-k-requires : goal.simple-known_of-k-requires
 simple-known_of-k-requires t c = asks-simple-room c.requires c.kind_at-kind.ensures c.a_at-a.ensures c.b_at.ensures
-    c.operands_of-count.ensures c.operands-p.ensures
+    c.operands_of-count.ensures c.operands-p.ensures.answers
 
 pub simple-bounds-stack-depth : goal.simple-bounds-stack-depth
 simple-bounds-stack-depth t c = asks-simple-read c.requires c.kind_at-kind.ensures c.a_at-a.ensures c.b_at.ensures
-    c.operands_of-count.ensures c.operands-p.ensures
+    c.operands_of-count.ensures c.operands-p.ensures.answers
 
 pub simple-bounds-stack-depth-2 : goal.simple-bounds-stack-depth-2
 simple-bounds-stack-depth-2 t c = asks-simple-read c.requires c.kind_at-kind.ensures c.a_at-a.ensures c.b_at.ensures
-    c.operands_of-count.ensures c.operands-p.ensures
+    c.operands_of-count.ensures c.operands-p.ensures.answers
 
-pub simple-last-requires : goal.simple-last-requires
-simple-last-requires t c = asks-simple-last c.requires c.kind_at-kind.ensures c.a_at-a.ensures c.b_at.ensures
-    c.operands_of-count.ensures c.operands-p.ensures c.known_of-k.ensures
+pub simple-last-done-requires : goal.simple-last-done-requires
+simple-last-done-requires t c = asks-simple-last c.requires c.kind_at-kind.ensures c.a_at-a.ensures c.b_at.ensures
+    c.operands_of-count.ensures c.operands-p.ensures.answers c.known_of-k.ensures
 
 pub simple-finish-requires : goal.simple-finish-requires
 simple-finish-requires t c = asks-simple-finish c.requires c.kind_at-kind.ensures c.a_at-a.ensures c.b_at.ensures c.operands_of-count.ensures
-    c.operands-p.ensures c.known_of-k.ensures c.last.ensures
-
-pub simple-shape_of-env : goal.simple-shape_of-env
-simple-shape_of-env t c = (simple-returns t c).kept.same-env
-
-pub simple-shape_of-ends : goal.simple-shape_of-ends
-simple-shape_of-ends t c = (simple-returns t c).kept.same_ends
+    c.operands-p.ensures.answers c.known_of-k.ensures c.last-done.ensures
 
 pub simple-shape_of-stack : goal.simple-shape_of-stack
-simple-shape_of-stack t c = (simple-returns t c).kept.same-stack
-
-pub simple-shape_of-out : goal.simple-shape_of-out
-simple-shape_of-out t c = (simple-returns t c).kept.same_out
+simple-shape_of-stack t c = (simple-returns-clause-answers t c).kept.same-stack
 
 -- what it has done where it returns
-pub statement-returns-in-20 : goal.statement-returns-in-20
-statement-returns-in-20 t c =
+pub statement-returns-in-20-clause-answers : goal.statement-returns-in-20-clause-answers
+statement-returns-in-20-clause-answers t c =
     answer-as (λ n h e. e ∙ (sym c.kind_at-kind.ensures ∙ c.in-20.is))
-    (answers-label (ask-as (λ n h e. e ∙ (sym c.kind_at-kind.ensures ∙ c.in-20.is)) c.requires) c.shape.ensures c.finish.ensures)
+    (answers-label (ask-as (λ n h e. e ∙ (sym c.kind_at-kind.ensures ∙ c.in-20.is)) c.requires) c.shape-done.ensures c.finish.ensures)
 
-pub statement-returns-in-25 : goal.statement-returns-in-25
-statement-returns-in-25 t c =
+pub statement-returns-in-25-clause-answers : goal.statement-returns-in-25-clause-answers
+statement-returns-in-25-clause-answers t c =
     answer-as (λ n h e. e ∙ (sym c.kind_at-kind.ensures ∙ c.in-25.is))
     (answers-goto (ask-as (λ n h e. e ∙ (sym c.kind_at-kind.ensures ∙ c.in-25.is)) c.requires)
-    c.a_at.ensures c.goto.ensures c.finish-in-25.ensures)
+    c.a_at.ensures c.goto-done.ensures c.finish-in-25.ensures)
 
 pub statement-kind_at-kind-requires : goal.statement-kind_at-kind-requires
 statement-kind_at-kind-requires t c = omega (arith, (asked c.requires).long)
@@ -1270,11 +1098,11 @@ statement-kind_at-kind-requires t c = omega (arith, (asked c.requires).long)
 pub statement-block-requires : goal.statement-block-requires
 statement-block-requires t c = (omega (arith, c.decreases), ask-as (λ n h e. e ∙ (sym c.kind_at-kind.ensures ∙ c.in-1.is)) c.requires)
 
-pub statement-shape-requires : goal.statement-shape-requires
-statement-shape-requires t c = asks-label-shape (ask-as (λ n h e. e ∙ (sym c.kind_at-kind.ensures ∙ c.in-20.is)) c.requires)
+pub statement-shape-done-requires : goal.statement-shape-done-requires
+statement-shape-done-requires t c = asks-label-shape (ask-as (λ n h e. e ∙ (sym c.kind_at-kind.ensures ∙ c.in-20.is)) c.requires)
 
 pub statement-finish-requires : goal.statement-finish-requires
-statement-finish-requires t c = asks-label-finish (ask-as (λ n h e. e ∙ (sym c.kind_at-kind.ensures ∙ c.in-20.is)) c.requires) c.shape.ensures
+statement-finish-requires t c = asks-label-finish (ask-as (λ n h e. e ∙ (sym c.kind_at-kind.ensures ∙ c.in-20.is)) c.requires) c.shape-done.ensures
 
 pub statement-assign-requires : goal.statement-assign-requires
 statement-assign-requires t c = (omega (arith, c.decreases), ask-as (λ n h e. e ∙ (sym c.kind_at-kind.ensures ∙ c.in-21.is)) c.requires)
@@ -1291,11 +1119,11 @@ statement-repeat-requires t c = (omega (arith, c.decreases), ask-as (λ n h e. e
 pub statement-a_at-requires : goal.statement-a_at-requires
 statement-a_at-requires t c = omega (arith, (asked c.requires).long)
 
-pub statement-goto-requires : goal.statement-goto-requires
-statement-goto-requires t c = asks-goto (ask-as (λ n h e. e ∙ (sym c.kind_at-kind.ensures ∙ c.in-25.is)) c.requires) c.a_at.ensures
+pub statement-goto-done-requires : goal.statement-goto-done-requires
+statement-goto-done-requires t c = asks-goto (ask-as (λ n h e. e ∙ (sym c.kind_at-kind.ensures ∙ c.in-25.is)) c.requires) c.a_at.ensures
 
 pub statement-finish-requires-in-25 : goal.statement-finish-requires-in-25
-statement-finish-requires-in-25 t c = asks-goto-finish (ask-as (λ n h e. e ∙ (sym c.kind_at-kind.ensures ∙ c.in-25.is)) c.requires) c.a_at.ensures c.goto.ensures
+statement-finish-requires-in-25 t c = asks-goto-finish (ask-as (λ n h e. e ∙ (sym c.kind_at-kind.ensures ∙ c.in-25.is)) c.requires) c.a_at.ensures c.goto-done.ensures
 
 pub statement-select-requires : goal.statement-select-requires
 statement-select-requires t c = (omega (arith, c.decreases), ask-as (λ n h e. e ∙ (sym c.kind_at-kind.ensures ∙ c.in-30.is)) c.requires)
@@ -1316,160 +1144,73 @@ statement-simple-requires t c = (
       (λ z. c.in_default.in_default-own.rest.1 (c.kind_at-kind.ensures ∙ (sym e ∙ z)))) c.requires),
 )
 
-pub statement-shape_of-env-in-1 : goal.statement-shape_of-env-in-1
-statement-shape_of-env-in-1 t c = c.block.ensures.kept.same-env
-
-pub statement-shape_of-ends-in-1 : goal.statement-shape_of-ends-in-1
-statement-shape_of-ends-in-1 t c = c.block.ensures.kept.same_ends
-
 pub statement-shape_of-stack-in-1 : goal.statement-shape_of-stack-in-1
-statement-shape_of-stack-in-1 t c = c.block.ensures.kept.same-stack
+statement-shape_of-stack-in-1 t c = c.block.ensures.answers.kept.same-stack
 
-pub statement-shape_of-out-in-1 : goal.statement-shape_of-out-in-1
-statement-shape_of-out-in-1 t c = c.block.ensures.kept.same_out
-
-pub statement-returns-in-1 : goal.statement-returns-in-1
-statement-returns-in-1 t c = answer-as (λ n h e. e ∙ (sym c.kind_at-kind.ensures ∙ c.in-1.is)) c.block.ensures
-
-pub statement-shape_of-ends-in-20 : goal.statement-shape_of-ends-in-20
-statement-shape_of-ends-in-20 t c = (statement-returns-in-20 t c).kept.same_ends
+pub statement-returns-in-1-clause-answers : goal.statement-returns-in-1-clause-answers
+statement-returns-in-1-clause-answers t c = answer-as (λ n h e. e ∙ (sym c.kind_at-kind.ensures ∙ c.in-1.is)) c.block.ensures.answers
 
 pub statement-shape_of-stack-in-20 : goal.statement-shape_of-stack-in-20
-statement-shape_of-stack-in-20 t c = (statement-returns-in-20 t c).kept.same-stack
-
-pub statement-shape_of-out-in-20 : goal.statement-shape_of-out-in-20
-statement-shape_of-out-in-20 t c = (statement-returns-in-20 t c).kept.same_out
-
-pub statement-shape_of-env-in-21 : goal.statement-shape_of-env-in-21
-statement-shape_of-env-in-21 t c = c.assign.ensures.kept.same-env
-
-pub statement-shape_of-ends-in-21 : goal.statement-shape_of-ends-in-21
-statement-shape_of-ends-in-21 t c = c.assign.ensures.kept.same_ends
+statement-shape_of-stack-in-20 t c = (statement-returns-in-20-clause-answers t c).kept.same-stack
 
 pub statement-shape_of-stack-in-21 : goal.statement-shape_of-stack-in-21
-statement-shape_of-stack-in-21 t c = c.assign.ensures.kept.same-stack
+statement-shape_of-stack-in-21 t c = c.assign.ensures.answers.kept.same-stack
 
-pub statement-shape_of-out-in-21 : goal.statement-shape_of-out-in-21
-statement-shape_of-out-in-21 t c = c.assign.ensures.kept.same_out
-
-pub statement-returns-in-21 : goal.statement-returns-in-21
-statement-returns-in-21 t c = answer-as (λ n h e. e ∙ (sym c.kind_at-kind.ensures ∙ c.in-21.is)) c.assign.ensures
-
-pub statement-shape_of-env-in-22 : goal.statement-shape_of-env-in-22
-statement-shape_of-env-in-22 t c = c.when.ensures.kept.same-env
-
-pub statement-shape_of-ends-in-22 : goal.statement-shape_of-ends-in-22
-statement-shape_of-ends-in-22 t c = c.when.ensures.kept.same_ends
+pub statement-returns-in-21-clause-answers : goal.statement-returns-in-21-clause-answers
+statement-returns-in-21-clause-answers t c = answer-as (λ n h e. e ∙ (sym c.kind_at-kind.ensures ∙ c.in-21.is)) c.assign.ensures.answers
 
 pub statement-shape_of-stack-in-22 : goal.statement-shape_of-stack-in-22
-statement-shape_of-stack-in-22 t c = c.when.ensures.kept.same-stack
+statement-shape_of-stack-in-22 t c = c.when.ensures.answers.kept.same-stack
 
-pub statement-shape_of-out-in-22 : goal.statement-shape_of-out-in-22
-statement-shape_of-out-in-22 t c = c.when.ensures.kept.same_out
-
-pub statement-returns-in-22 : goal.statement-returns-in-22
-statement-returns-in-22 t c = answer-as (λ n h e. e ∙ (sym c.kind_at-kind.ensures ∙ c.in-22.is)) c.when.ensures
-
-pub statement-shape_of-env-in-23 : goal.statement-shape_of-env-in-23
-statement-shape_of-env-in-23 t c = c.choose.ensures.kept.same-env
-
-pub statement-shape_of-ends-in-23 : goal.statement-shape_of-ends-in-23
-statement-shape_of-ends-in-23 t c = c.choose.ensures.kept.same_ends
+pub statement-returns-in-22-clause-answers : goal.statement-returns-in-22-clause-answers
+statement-returns-in-22-clause-answers t c = answer-as (λ n h e. e ∙ (sym c.kind_at-kind.ensures ∙ c.in-22.is)) c.when.ensures.answers
 
 pub statement-shape_of-stack-in-23 : goal.statement-shape_of-stack-in-23
-statement-shape_of-stack-in-23 t c = c.choose.ensures.kept.same-stack
+statement-shape_of-stack-in-23 t c = c.choose.ensures.answers.kept.same-stack
 
-pub statement-shape_of-out-in-23 : goal.statement-shape_of-out-in-23
-statement-shape_of-out-in-23 t c = c.choose.ensures.kept.same_out
-
-pub statement-returns-in-23 : goal.statement-returns-in-23
-statement-returns-in-23 t c = answer-as (λ n h e. e ∙ (sym c.kind_at-kind.ensures ∙ c.in-23.is)) c.choose.ensures
-
-pub statement-shape_of-env-in-24 : goal.statement-shape_of-env-in-24
-statement-shape_of-env-in-24 t c = c.repeat.ensures.kept.same-env
-
-pub statement-shape_of-ends-in-24 : goal.statement-shape_of-ends-in-24
-statement-shape_of-ends-in-24 t c = c.repeat.ensures.kept.same_ends
+pub statement-returns-in-23-clause-answers : goal.statement-returns-in-23-clause-answers
+statement-returns-in-23-clause-answers t c = answer-as (λ n h e. e ∙ (sym c.kind_at-kind.ensures ∙ c.in-23.is)) c.choose.ensures.answers
 
 pub statement-shape_of-stack-in-24 : goal.statement-shape_of-stack-in-24
-statement-shape_of-stack-in-24 t c = c.repeat.ensures.kept.same-stack
+statement-shape_of-stack-in-24 t c = c.repeat.ensures.answers.kept.same-stack
 
-pub statement-shape_of-out-in-24 : goal.statement-shape_of-out-in-24
-statement-shape_of-out-in-24 t c = c.repeat.ensures.kept.same_out
-
-pub statement-returns-in-24 : goal.statement-returns-in-24
-statement-returns-in-24 t c = answer-as (λ n h e. e ∙ (sym c.kind_at-kind.ensures ∙ c.in-24.is)) c.repeat.ensures
-
-pub statement-shape_of-env-in-25 : goal.statement-shape_of-env-in-25
-statement-shape_of-env-in-25 t c = (statement-returns-in-25 t c).kept.same-env
-
-pub statement-shape_of-ends-in-25 : goal.statement-shape_of-ends-in-25
-statement-shape_of-ends-in-25 t c = (statement-returns-in-25 t c).kept.same_ends
+pub statement-returns-in-24-clause-answers : goal.statement-returns-in-24-clause-answers
+statement-returns-in-24-clause-answers t c = answer-as (λ n h e. e ∙ (sym c.kind_at-kind.ensures ∙ c.in-24.is)) c.repeat.ensures.answers
 
 pub statement-shape_of-stack-in-25 : goal.statement-shape_of-stack-in-25
-statement-shape_of-stack-in-25 t c = (statement-returns-in-25 t c).kept.same-stack
-
-pub statement-shape_of-out-in-25 : goal.statement-shape_of-out-in-25
-statement-shape_of-out-in-25 t c = (statement-returns-in-25 t c).kept.same_out
-
-pub statement-shape_of-env-in-30 : goal.statement-shape_of-env-in-30
-statement-shape_of-env-in-30 t c = c.select.ensures.kept.same-env
-
-pub statement-shape_of-ends-in-30 : goal.statement-shape_of-ends-in-30
-statement-shape_of-ends-in-30 t c = c.select.ensures.kept.same_ends
+statement-shape_of-stack-in-25 t c = (statement-returns-in-25-clause-answers t c).kept.same-stack
 
 pub statement-shape_of-stack-in-30 : goal.statement-shape_of-stack-in-30
-statement-shape_of-stack-in-30 t c = c.select.ensures.kept.same-stack
+statement-shape_of-stack-in-30 t c = c.select.ensures.answers.kept.same-stack
 
-pub statement-shape_of-out-in-30 : goal.statement-shape_of-out-in-30
-statement-shape_of-out-in-30 t c = c.select.ensures.kept.same_out
-
-pub statement-returns-in-30 : goal.statement-returns-in-30
-statement-returns-in-30 t c = answer-as (λ n h e. e ∙ (sym c.kind_at-kind.ensures ∙ c.in-30.is)) c.select.ensures
-
-pub statement-shape_of-env-in-31 : goal.statement-shape_of-env-in-31
-statement-shape_of-env-in-31 t c = c.turns.ensures.kept.same-env
-
-pub statement-shape_of-ends-in-31 : goal.statement-shape_of-ends-in-31
-statement-shape_of-ends-in-31 t c = c.turns.ensures.kept.same_ends
+pub statement-returns-in-30-clause-answers : goal.statement-returns-in-30-clause-answers
+statement-returns-in-30-clause-answers t c = answer-as (λ n h e. e ∙ (sym c.kind_at-kind.ensures ∙ c.in-30.is)) c.select.ensures.answers
 
 pub statement-shape_of-stack-in-31 : goal.statement-shape_of-stack-in-31
-statement-shape_of-stack-in-31 t c = c.turns.ensures.kept.same-stack
+statement-shape_of-stack-in-31 t c = c.turns.ensures.answers.kept.same-stack
 
-pub statement-shape_of-out-in-31 : goal.statement-shape_of-out-in-31
-statement-shape_of-out-in-31 t c = c.turns.ensures.kept.same_out
-
-pub statement-returns-in-31 : goal.statement-returns-in-31
-statement-returns-in-31 t c = answer-as (λ n h e. e ∙ (sym c.kind_at-kind.ensures ∙ c.in-31.is)) c.turns.ensures
-
-pub statement-shape_of-env-in_default : goal.statement-shape_of-env-in_default
-statement-shape_of-env-in_default t c = c.simple.ensures.kept.same-env
-
-pub statement-shape_of-ends-in_default : goal.statement-shape_of-ends-in_default
-statement-shape_of-ends-in_default t c = c.simple.ensures.kept.same_ends
+pub statement-returns-in-31-clause-answers : goal.statement-returns-in-31-clause-answers
+statement-returns-in-31-clause-answers t c = answer-as (λ n h e. e ∙ (sym c.kind_at-kind.ensures ∙ c.in-31.is)) c.turns.ensures.answers
 
 pub statement-shape_of-stack-in_default : goal.statement-shape_of-stack-in_default
-statement-shape_of-stack-in_default t c = c.simple.ensures.kept.same-stack
+statement-shape_of-stack-in_default t c = c.simple.ensures.answers.kept.same-stack
 
-pub statement-shape_of-out-in_default : goal.statement-shape_of-out-in_default
-statement-shape_of-out-in_default t c = c.simple.ensures.kept.same_out
-
-pub statement-returns-in_default : goal.statement-returns-in_default
-statement-returns-in_default t c = answer-as (λ n h e. simple-stmt n h (λ z. c.in_default.in_default-own.rest.0.0.0.0.0.0.0.0.1 (c.kind_at-kind.ensures ∙ (sym e ∙ z)))
+pub statement-returns-in_default-clause-answers : goal.statement-returns-in_default-clause-answers
+statement-returns-in_default-clause-answers t c = answer-as (λ n h e. simple-stmt n h (λ z. c.in_default.in_default-own.rest.0.0.0.0.0.0.0.0.1 (c.kind_at-kind.ensures ∙ (sym e ∙ z)))
     (λ z. c.in_default.in_default-own.rest.0.0.0.0.0.0.0.1 (c.kind_at-kind.ensures ∙ (sym e ∙ z)))
     (λ z. c.in_default.in_default-own.rest.0.0.0.0.0.0.1 (c.kind_at-kind.ensures ∙ (sym e ∙ z)))
     (λ z. c.in_default.in_default-own.rest.0.0.0.0.0.1 (c.kind_at-kind.ensures ∙ (sym e ∙ z)))
     (λ z. c.in_default.in_default-own.rest.0.0.0.0.1 (c.kind_at-kind.ensures ∙ (sym e ∙ z))) (λ z. c.in_default.in_default-own.rest.0.0.0.1 (c.kind_at-kind.ensures ∙ (sym e ∙ z)))
     (λ z. c.in_default.in_default-own.rest.0.0.1 (c.kind_at-kind.ensures ∙ (sym e ∙ z))) (λ z. c.in_default.in_default-own.rest.0.1 (c.kind_at-kind.ensures ∙ (sym e ∙ z)))
     (λ z. c.in_default.in_default-own.rest.1 (c.kind_at-kind.ensures ∙ (sym e ∙ z))))
-    (answers-anew _ c.simple.ensures)
+    (answers-anew _ c.simple.ensures.answers)
 
 -- what it has done where it returns
-pub turns-returns : goal.turns-returns
-turns-returns t c =
-    answers-turn c.requires c.spanned-n.result c.spanned-n.ensures c.operands-p.ensures c.shape-q.ensures
+pub turns-returns-clause-answers : goal.turns-returns-clause-answers
+turns-returns-clause-answers t c =
+    answers-turn c.requires c.spanned-n.result c.spanned-n.ensures c.operands-p.ensures.answers c.shape-q.ensures
     (c.second_in-cell.ensures ∙ ap second_in c.known_at.ensures) c.end_of-exit.ensures.0 c.enter_turns-r.ensures
-    c.a_at-control.ensures c.enter_loop-up.ensures c.statement-s.ensures c.leave_turn-t.ensures
+    c.a_at-control.ensures c.enter_loop-up.ensures c.statement-s.ensures.answers c.leave_turn-t.ensures
     c.finish.ensures
 
 pub turns-a_at-control-requires : goal.turns-a_at-control-requires
@@ -1500,14 +1241,14 @@ pub turns-overflow_add-depth : goal.turns-overflow_add-depth
 turns-overflow_add-depth t c = omega (arith, (asked c.requires).deep)
 
 pub turns-shape-q-requires : goal.turns-shape-q-requires
-turns-shape-q-requires t c = asks-turn-shape c.requires c.spanned-n.result c.spanned-n.ensures c.operands-p.ensures
+turns-shape-q-requires t c = asks-turn-shape c.requires c.spanned-n.result c.spanned-n.ensures c.operands-p.ensures.answers
 
 pub turns-enter_turns-r-requires : goal.turns-enter_turns-r-requires
-turns-enter_turns-r-requires t c = asks-turn-enter c.requires c.spanned-n.result c.spanned-n.ensures c.operands-p.ensures
+turns-enter_turns-r-requires t c = asks-turn-enter c.requires c.spanned-n.result c.spanned-n.ensures c.operands-p.ensures.answers
     c.shape-q.ensures (c.second_in-cell.ensures ∙ ap second_in c.known_at.ensures) c.end_of-exit.ensures.0
 
 pub turns-enter_loop-up-requires : goal.turns-enter_loop-up-requires
-turns-enter_loop-up-requires t c = asks-turn-room c.requires c.spanned-n.result c.spanned-n.ensures c.operands-p.ensures c.shape-q.ensures
+turns-enter_loop-up-requires t c = asks-turn-room c.requires c.spanned-n.result c.spanned-n.ensures c.operands-p.ensures.answers c.shape-q.ensures
     (c.second_in-cell.ensures ∙ ap second_in c.known_at.ensures) c.end_of-exit.ensures.0 c.enter_turns-r.ensures
 
 pub turns-overflow_add-from : goal.turns-overflow_add-from
@@ -1535,7 +1276,7 @@ pub turns-statement-s-requires : goal.turns-statement-s-requires
 turns-statement-s-requires t c = (
   omega (arith, (asked c.requires).nested, c.decreases),
   asks-turn-second c.requires c.spanned-n.result
-      c.spanned-n.ensures c.operands-p.ensures c.shape-q.ensures (c.second_in-cell.ensures ∙ ap second_in
+      c.spanned-n.ensures c.operands-p.ensures.answers c.shape-q.ensures (c.second_in-cell.ensures ∙ ap second_in
       c.known_at.ensures) c.end_of-exit.ensures.0 c.enter_turns-r.ensures c.a_at-control.ensures
       c.enter_loop-up.ensures,
 )
@@ -1543,39 +1284,30 @@ turns-statement-s-requires t c = (
 pub turns-overflow_cast-began : goal.turns-overflow_cast-began
 turns-overflow_cast-began t c = omega (
   arith,
-  asks-turn-began c.requires c.spanned-n.result c.spanned-n.ensures c.operands-p.ensures
+  asks-turn-began c.requires c.spanned-n.result c.spanned-n.ensures c.operands-p.ensures.answers
       c.shape-q.ensures (c.second_in-cell.ensures ∙ ap second_in c.known_at.ensures) c.end_of-exit.ensures.0
       c.enter_turns-r.ensures,
 )
 
 pub turns-leave_turn-t-requires : goal.turns-leave_turn-t-requires
-turns-leave_turn-t-requires t c = asks-turn-leave c.requires c.spanned-n.result c.spanned-n.ensures c.operands-p.ensures
+turns-leave_turn-t-requires t c = asks-turn-leave c.requires c.spanned-n.result c.spanned-n.ensures c.operands-p.ensures.answers
     c.shape-q.ensures (c.second_in-cell.ensures ∙ ap second_in c.known_at.ensures) c.end_of-exit.ensures.0
-    c.enter_turns-r.ensures c.a_at-control.ensures c.enter_loop-up.ensures c.statement-s.ensures
+    c.enter_turns-r.ensures c.a_at-control.ensures c.enter_loop-up.ensures c.statement-s.ensures.answers
 
 pub turns-finish-requires : goal.turns-finish-requires
-turns-finish-requires t c = asks-turn-finish c.requires c.spanned-n.result c.spanned-n.ensures c.operands-p.ensures
+turns-finish-requires t c = asks-turn-finish c.requires c.spanned-n.result c.spanned-n.ensures c.operands-p.ensures.answers
     c.shape-q.ensures (c.second_in-cell.ensures ∙ ap second_in c.known_at.ensures) c.end_of-exit.ensures.0
-    c.enter_turns-r.ensures c.a_at-control.ensures c.enter_loop-up.ensures c.statement-s.ensures
+    c.enter_turns-r.ensures c.a_at-control.ensures c.enter_loop-up.ensures c.statement-s.ensures.answers
     c.leave_turn-t.ensures
 
-pub turns-shape_of-env : goal.turns-shape_of-env
-turns-shape_of-env t c = (turns-returns t c).kept.same-env
-
-pub turns-shape_of-ends : goal.turns-shape_of-ends
-turns-shape_of-ends t c = (turns-returns t c).kept.same_ends
-
 pub turns-shape_of-stack : goal.turns-shape_of-stack
-turns-shape_of-stack t c = (turns-returns t c).kept.same-stack
-
-pub turns-shape_of-out : goal.turns-shape_of-out
-turns-shape_of-out t c = (turns-returns t c).kept.same_out
+turns-shape_of-stack t c = (turns-returns-clause-answers t c).kept.same-stack
 
 -- what it has done where it returns
-pub when-returns : goal.when-returns
-when-returns t c =
-    answers-when c.requires c.size_at.result c.size_at.ensures c.expression-p.ensures
-    c.end_of.ensures.0 c.emit-q.ensures c.statement-r.ensures c.shape.ensures
+pub when-returns-clause-answers : goal.when-returns-clause-answers
+when-returns-clause-answers t c =
+    answers-when c.requires c.size_at.result c.size_at.ensures c.expression-p.ensures.answers
+    c.end_of.ensures.0 c.emit-q.ensures c.statement-r.ensures.answers c.shape-done.ensures
     c.finish.ensures
 
 pub when-slice_bounds-expression-count : goal.when-slice_bounds-expression-count
@@ -1606,7 +1338,7 @@ pub when-overflow_add-second-2 : goal.when-overflow_add-second-2
 when-overflow_add-second-2 t c = omega (arith, (asks-when-passes c.requires c.size_at.result c.size_at.ensures).small)
 
 pub when-emit-q-requires : goal.when-emit-q-requires
-when-emit-q-requires t c = asks-when-emit c.requires c.size_at.result c.size_at.ensures c.expression-p.ensures
+when-emit-q-requires t c = asks-when-emit c.requires c.size_at.result c.size_at.ensures c.expression-p.ensures.answers
 
 pub when-overflow_mul-from : goal.when-overflow_mul-from
 when-overflow_mul-from t c = omega (arith, (asks-when-passes c.requires c.size_at.result c.size_at.ensures).small)
@@ -1625,25 +1357,16 @@ when-overflow_sub-nesting-2 t c = omega (arith, (asked c.requires).nested)
 pub when-statement-r-requires : goal.when-statement-r-requires
 when-statement-r-requires t c = (
   omega (arith, (asked c.requires).nested, c.decreases),
-  asks-when-second c.requires c.size_at.result c.size_at.ensures c.expression-p.ensures c.end_of.ensures.0 c.emit-q.ensures,
+  asks-when-second c.requires c.size_at.result c.size_at.ensures c.expression-p.ensures.answers c.end_of.ensures.0 c.emit-q.ensures,
 )
 
-pub when-shape-requires : goal.when-shape-requires
-when-shape-requires t c = asks-when-shape c.requires c.size_at.result c.size_at.ensures c.expression-p.ensures
-    c.end_of.ensures.0 c.emit-q.ensures c.statement-r.ensures
+pub when-shape-done-requires : goal.when-shape-done-requires
+when-shape-done-requires t c = asks-when-shape c.requires c.size_at.result c.size_at.ensures c.expression-p.ensures.answers
+    c.end_of.ensures.0 c.emit-q.ensures c.statement-r.ensures.answers
 
 pub when-finish-requires : goal.when-finish-requires
-when-finish-requires t c = asks-when-finish c.requires c.size_at.result c.size_at.ensures c.expression-p.ensures
-    c.end_of.ensures.0 c.emit-q.ensures c.statement-r.ensures c.shape.ensures
-
-pub when-shape_of-env : goal.when-shape_of-env
-when-shape_of-env t c = (when-returns t c).kept.same-env
-
-pub when-shape_of-ends : goal.when-shape_of-ends
-when-shape_of-ends t c = (when-returns t c).kept.same_ends
+when-finish-requires t c = asks-when-finish c.requires c.size_at.result c.size_at.ensures c.expression-p.ensures.answers
+    c.end_of.ensures.0 c.emit-q.ensures c.statement-r.ensures.answers c.shape-done.ensures
 
 pub when-shape_of-stack : goal.when-shape_of-stack
-when-shape_of-stack t c = (when-returns t c).kept.same-stack
-
-pub when-shape_of-out : goal.when-shape_of-out
-when-shape_of-out t c = (when-returns t c).kept.same_out
+when-shape_of-stack t c = (when-returns-clause-answers t c).kept.same-stack

@@ -3,7 +3,7 @@
 use Prim.Native.Nat.{◌*◌, ◌+◌, ◌-◌}
 use Rattle.compile_steps.specs.Arms.{ArmsSoFar}
 use Rattle.compile_steps.specs.Lists.{EsSoFar, ItemsSoFar}
-use Rattle.compile_steps.specs.Parts.{lent}
+use Rattle.compile_walk.specs.Given.{Same, arrays}
 use Rattle.compile_walk.proofs.+arms_assign_block_body_choose_conditional_expression_items_operands_pair_repeat_select_simple_statement_turns_when.Given as goal
 
 abbrev pub decreases-arms : goal.decreases-arms
@@ -55,20 +55,19 @@ abbrev pub decreases-when : goal.decreases-when
 decreases-when l = 4 * l.nesting
 
 abbrev pub invariant-arms-loop-i : goal.invariant-arms-loop-i
-invariant-arms-loop-i l = ArmsSoFar l.known l.aims l.table l.part l.owner l.count l.nesting l.at l.sizes (lent l.initial.env l.initial.ends l.initial.stack l.initial.out) l.top l.holds l.depth l.initial.p
-    (lent l.env l.ends l.stack l.out) l.rest l.place l.i l.p
+invariant-arms-loop-i l = record {
+  same : Same l.initial.lent l.lent;
+  far : ArmsSoFar l.source.known.now l.source.aims.now l.source.table.now l.part l.owner l.count l.nesting l.at l.source.sizes.now (arrays l.initial.lent l.initial.stack) l.top l.holds l.depth l.initial.p (arrays l.lent l.stack) l.rest l.place l.i l.p;
+}
 
-abbrev pub decreases-arms-loop-i : goal.decreases-arms-loop-i
-decreases-arms-loop-i l = l.count - l.i
-
-abbrev pub invariant-items-loop-left : goal.invariant-items-loop-left
-invariant-items-loop-left l = ItemsSoFar l.known l.aims l.table l.part l.count l.nesting l.at l.sizes (lent l.initial.env l.initial.ends l.initial.stack l.initial.out) l.top l.holds l.depth l.initial.p (lent l.env l.ends l.stack l.out) l.rest l.place l.left l.p
-
-abbrev pub decreases-items-loop-left : goal.decreases-items-loop-left
-decreases-items-loop-left l = l.left
+abbrev pub invariant-items-loop-i : goal.invariant-items-loop-i
+invariant-items-loop-i l = record {
+  same : Same l.initial.lent l.lent;
+  far : ItemsSoFar l.source.known.now l.source.aims.now l.source.table.now l.part l.count l.nesting l.at l.source.sizes.now (arrays l.initial.lent l.initial.stack) l.top l.holds l.depth l.initial.p (arrays l.lent l.stack) l.rest l.place (l.count - l.i) l.p;
+}
 
 abbrev pub invariant-operands-loop-i : goal.invariant-operands-loop-i
-invariant-operands-loop-i l = EsSoFar l.known l.aims l.table l.part l.count l.nesting l.at l.sizes (lent l.initial.env l.initial.ends l.initial.stack l.initial.out) l.top l.holds l.depth l.initial.p (lent l.env l.ends l.stack l.out) l.rest l.place l.i l.p
-
-abbrev pub decreases-operands-loop-i : goal.decreases-operands-loop-i
-decreases-operands-loop-i l = l.count - l.i
+invariant-operands-loop-i l = record {
+  same : Same l.initial.lent l.lent;
+  far : EsSoFar l.source.known.now l.source.aims.now l.source.table.now l.part l.count l.nesting l.at l.source.sizes.now (arrays l.initial.lent l.initial.stack) l.top l.holds l.depth l.initial.p (arrays l.lent l.stack) l.rest l.place l.i l.p;
+}
