@@ -12,9 +12,9 @@ pub procedure-requires : goal.procedure-requires
 procedure-requires c =
     global-asks c.requires (sym c.kind_at.ensures ∙ c.if-kind_at-eq-KIND_PROCEDURE.true)
 
-pub returns-then-kind_at-eq-KIND_PROCEDURE : goal.returns-then-kind_at-eq-KIND_PROCEDURE
-returns-then-kind_at-eq-KIND_PROCEDURE c =
-    global-done (sym c.kind_at.ensures ∙ c.if-kind_at-eq-KIND_PROCEDURE.true) c.procedure.ensures
+pub returns-then-kind_at-eq-KIND_PROCEDURE-clause-answers : goal.returns-then-kind_at-eq-KIND_PROCEDURE-clause-answers
+returns-then-kind_at-eq-KIND_PROCEDURE-clause-answers c =
+    global-done (sym c.kind_at.ensures ∙ c.if-kind_at-eq-KIND_PROCEDURE.true) c.procedure.ensures.answers
 
-pub returns : goal.returns
-returns c = global-none (λ e. c.if-kind_at-eq-KIND_PROCEDURE.false (c.kind_at.ensures ∙ e))
+pub returns-clause-answers : goal.returns-clause-answers
+returns-clause-answers c = global-none (λ e. c.if-kind_at-eq-KIND_PROCEDURE.false (c.kind_at.ensures ∙ e))

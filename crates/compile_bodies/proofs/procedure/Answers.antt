@@ -21,7 +21,7 @@ enter_procedure-up-requires c = (
   omega (
     arith,
     (proc-asks c.requires c.b_at-heading.result c.b_at-heading.ensures).room,
-    items-few 4 c.args.table.now (c.args.at + 1) (c.b_at-heading.result / 256),
+    items-few 4 c.args.source.now.table.now (c.args.at + 1) (c.b_at-heading.result / 256),
   ),
 )
 
@@ -46,31 +46,28 @@ statement-p-requires c =
     proc-statement c.requires c.b_at-heading.result c.b_at-heading.ensures
     c.enter_procedure-up.ensures IsStmt (λ s. tt) c.if-heading-eq0.true
 
-pub emit-requires : goal.emit-requires
-emit-requires c =
+pub emit-q-requires : goal.emit-q-requires
+emit-q-requires c =
     proper-fits c.requires c.b_at-heading.result c.b_at-heading.ensures
-    c.enter_procedure-up.ensures IsStmt (λ s. tt) c.if-heading-eq0.true c.statement-p.ensures
+    c.enter_procedure-up.ensures IsStmt (λ s. tt) c.if-heading-eq0.true c.statement-p.ensures.answers
 
 pub finish-requires : goal.finish-requires
 finish-requires c = (
   omega (
     arith,
     (proc-asks c.requires c.b_at-heading.result c.b_at-heading.ensures).ending,
-    c.statement-p.ensures.kept.same_ends,
+    c.statement-p.ensures.answers.kept.same_ends,
   ),
-  rw c.emit.ensures.0
+  rw c.emit-q.ensures.0
       (proper-fits c.requires c.b_at-heading.result c.b_at-heading.ensures
-      c.enter_procedure-up.ensures IsStmt (λ s. tt) c.if-heading-eq0.true c.statement-p.ensures).address-small,
+      c.enter_procedure-up.ensures IsStmt (λ s. tt) c.if-heading-eq0.true c.statement-p.ensures.answers).address-small,
 )
 
-pub returns-then-heading-eq0 : goal.returns-then-heading-eq0
-returns-then-heading-eq0 c =
+pub returns-then-heading-eq0-clause-answers : goal.returns-then-heading-eq0-clause-answers
+returns-then-heading-eq0-clause-answers c =
     proc-proper c.requires c.b_at-heading.result c.b_at-heading.ensures
-    c.enter_procedure-up.ensures IsStmt (λ s. tt) c.if-heading-eq0.true c.statement-p.ensures c.emit.ensures
+    c.enter_procedure-up.ensures IsStmt (λ s. tt) c.if-heading-eq0.true c.statement-p.ensures.answers c.emit-q.ensures
     c.finish.ensures
-
-pub shape_of-env-then-heading-eq0 : goal.shape_of-env-then-heading-eq0
-shape_of-env-then-heading-eq0 c = (returns-then-heading-eq0 c).kept.same-env
 
 pub slice_bounds-expression-count : goal.slice_bounds-expression-count
 slice_bounds-expression-count c =
@@ -93,28 +90,25 @@ expression-p-requires c =
     proc-expression c.requires c.b_at-heading.result c.b_at-heading.ensures
     c.enter_procedure-up.ensures IsExpr (λ e. tt) c.if-heading-eq0.false
 
-pub emit-requires-2 : goal.emit-requires-2
-emit-requires-2 c =
+pub emit-q-requires-2 : goal.emit-q-requires-2
+emit-q-requires-2 c =
     function-fits c.requires c.b_at-heading.result c.b_at-heading.ensures
-    c.enter_procedure-up.ensures IsExpr (λ e. tt) c.if-heading-eq0.false c.expression-p.ensures
+    c.enter_procedure-up.ensures IsExpr (λ e. tt) c.if-heading-eq0.false c.expression-p.ensures.answers
 
 pub finish-requires-2 : goal.finish-requires-2
 finish-requires-2 c = (
   omega (
     arith,
     (proc-asks c.requires c.b_at-heading.result c.b_at-heading.ensures).ending,
-    c.expression-p.ensures.kept.same_ends,
+    c.expression-p.ensures.answers.kept.same_ends,
   ),
-  rw c.emit-2.ensures.0
+  rw c.emit-q-2.ensures.0
       (function-fits c.requires c.b_at-heading.result c.b_at-heading.ensures
-      c.enter_procedure-up.ensures IsExpr (λ e. tt) c.if-heading-eq0.false c.expression-p.ensures).address-small,
+      c.enter_procedure-up.ensures IsExpr (λ e. tt) c.if-heading-eq0.false c.expression-p.ensures.answers).address-small,
 )
 
-pub returns : goal.returns
-returns c =
+pub returns-clause-answers : goal.returns-clause-answers
+returns-clause-answers c =
     proc-function c.requires c.b_at-heading.result c.b_at-heading.ensures
-    c.enter_procedure-up.ensures IsExpr (λ e. tt) c.if-heading-eq0.false c.expression-p.ensures c.emit-2.ensures
+    c.enter_procedure-up.ensures IsExpr (λ e. tt) c.if-heading-eq0.false c.expression-p.ensures.answers c.emit-q-2.ensures
     c.finish-2.ensures
-
-pub shape_of-env : goal.shape_of-env
-shape_of-env c = (returns c).kept.same-env

@@ -1,11 +1,10 @@
-use Rattle.compile_whole.specs.Stage.{lent_of}
+use Prim.Native.Nat.{◌-◌}
+use Rattle.compile_walk.specs.Given.{Same, arrays}
 use Rattle.compile_whole.specs.Loop.{ProcsSoFar}
 use Rattle.compile_bodies.proofs.procedures.Given as goal
 
-abbrev pub invariant-loop-left : goal.invariant-loop-left
-invariant-loop-left l =
-    ProcsSoFar l.table l.sizes l.known l.aims l.top (lent_of l.initial.env l.initial.ends l.initial.stack l.initial.out) l.initial.p (lent_of l.env l.ends l.stack l.out) l.place l.left l.p
-
-abbrev pub decreases-loop-left : goal.decreases-loop-left
-decreases-loop-left l =
-    l.left
+abbrev pub invariant-loop-i : goal.invariant-loop-i
+invariant-loop-i l = record {
+  same : Same l.initial.lent l.lent;
+  far : ProcsSoFar l.source.table.now l.source.sizes.now l.source.known.now l.source.aims.now l.top (arrays l.initial.lent l.initial.stack) l.initial.p (arrays l.lent l.stack) l.place (l.count - l.i) l.p;
+}

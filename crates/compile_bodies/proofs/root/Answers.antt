@@ -35,31 +35,25 @@ items-q-requires c =
 pub releases-r-requires : goal.releases-r-requires
 releases-r-requires c =
     releases-fit c.requires c.b_at-items.result c.root_holds-held.result c.b_at-items.ensures
-    c.root_holds-held.ensures c.declare_globals-p.ensures c.items-q.ensures
+    c.root_holds-held.ensures c.declare_globals-p.ensures c.items-q.ensures.answers
 
-pub emit-requires : goal.emit-requires
-emit-requires c =
+pub emit-s-requires : goal.emit-s-requires
+emit-s-requires c =
     end_fits c.requires c.b_at-items.result c.root_holds-held.result c.b_at-items.ensures
-    c.root_holds-held.ensures c.declare_globals-p.ensures c.items-q.ensures c.releases-r.ensures
+    c.root_holds-held.ensures c.declare_globals-p.ensures c.items-q.ensures.answers c.releases-r.ensures
 
 pub finish-requires : goal.finish-requires
 finish-requires c = (
   ends_some c.requires c.b_at-items.result c.root_holds-held.result c.b_at-items.ensures
-      c.root_holds-held.ensures c.declare_globals-p.ensures c.items-q.ensures
+      c.root_holds-held.ensures c.declare_globals-p.ensures c.items-q.ensures.answers
       c.releases-r.ensures,
-  rw c.emit.ensures.0
+  rw c.emit-s.ensures.0
       (end_fits c.requires c.b_at-items.result c.root_holds-held.result c.b_at-items.ensures
-      c.root_holds-held.ensures c.declare_globals-p.ensures c.items-q.ensures c.releases-r.ensures).address-small,
+      c.root_holds-held.ensures c.declare_globals-p.ensures c.items-q.ensures.answers c.releases-r.ensures).address-small,
 )
 
-pub returns : goal.returns
-returns c =
+pub returns-clause-answers : goal.returns-clause-answers
+returns-clause-answers c =
     root-done c.requires c.b_at-items.result c.root_holds-held.result c.b_at-items.ensures
-    c.root_holds-held.ensures c.declare_globals-p.ensures c.items-q.ensures
-    c.releases-r.ensures c.emit.ensures c.finish.ensures
-
-pub shape_of-env : goal.shape_of-env
-shape_of-env c = (returns c).kept.same-env
-
-pub shape_of-out : goal.shape_of-out
-shape_of-out c = (returns c).kept.same_out
+    c.root_holds-held.ensures c.declare_globals-p.ensures c.items-q.ensures.answers
+    c.releases-r.ensures c.emit-s.ensures c.finish.ensures
