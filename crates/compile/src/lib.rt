@@ -10,6 +10,7 @@ ghost use Rattle.compile_whole.specs.Compiling.{AsksCompile, AsksWrite, cursor_a
 ghost use Rattle.compile.specs.Verdict.{verdict_of, Room};
 
 use compile_output::Cursor;
+use compile_walk::Source;
 use formats::compiled::*;
 use formats::entries::*;
 use formats::limits::*;
@@ -48,18 +49,22 @@ fn write(
     requires { AsksWrite table.now count after classes bodies sizes.now env.old top known.now aims.old ends.old × (32 ≤ length stack.old) }
     ensures { compile_on macro_of table.now out.old ≡ record { verdict = verdict_of result; bytes = out.new } }
 {
-    let dry = compile_bodies::walk(
+    // a dry walk aims at nothing
+    let blind = Source {
         table,
-        count,
-        after,
         sizes,
-        env,
-        top,
         known,
-        ends,
+        aims: ends,
+    };
+    let dry = compile_bodies::walk(
+        &blind,
+        env,
         aims,
         stack,
         out,
+        count,
+        after,
+        top,
         cursor(0, 0, true),
     );
     let front = compile_front::length(table, classes, bodies);
@@ -84,18 +89,21 @@ fn write(
         dry.shapes,
         out,
     );
-    compile_bodies::walk(
+    let source = Source {
         table,
-        count,
-        after,
         sizes,
-        env,
-        top,
         known,
         aims,
+    };
+    compile_bodies::walk(
+        &source,
+        env,
         ends,
         stack,
         out,
+        count,
+        after,
+        top,
         cursor(front, shapes, false),
     );
     out[length - END_BYTES] = b'Z';

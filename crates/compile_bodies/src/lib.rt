@@ -8,7 +8,7 @@ ghost use Rattle.compile_output.specs.EmitRecord.{Fits};
 ghost use Rattle.compile_output.specs.EmitCode.{cursor_after, emitted};
 ghost use Rattle.compile_symbols.specs.Tabled.{the_tree, Headed};
 ghost use Rattle.compile_whole.specs.Heads.{root_head};
-ghost use Rattle.compile_whole.specs.Stage.{Prepared};
+ghost use Rattle.compile_whole.specs.Stage.{Prepared, lent_of};
 ghost use Rattle.compile_whole.specs.Procs.{AsksProc, AnswersProc};
 ghost use Rattle.compile_whole.specs.Loop.{AsksGlobal, AnswersGlobal, AsksProcs, AnswersProcs};
 ghost use Rattle.compile_whole.specs.Walks.{AsksRoot, AnswersRoot, AsksWalk, AnswersWalk};
@@ -183,21 +183,24 @@ fn procedures(
 // One walk of the whole table, from a cursor; the root's names are in sight.
 pub fn walk(
     source: &Source,
-    lent: &mut Lent,
+    env: &mut [u32],
+    ends: &mut [u16],
     stack: &mut [u8],
+    out: &mut [u8],
     count: usize,
     after: usize,
     top: usize,
     cursor: Cursor,
 ) -> Cursor
-    requires { AsksWalk source.now.table.now count after source.now.sizes.now lent.old.env.now top source.now.known.now source.now.aims.now lent.old.ends.now lent.old.out.now cursor × (32 ≤ length stack.old) }
-    ensures same { Same lent.old lent.new }
-    ensures answers { AnswersWalk source.now.table.now (arrays lent.old stack.old) (arrays lent.new stack.new) top cursor result }
+    requires { AsksWalk source.now.table.now count after source.now.sizes.now env.old top source.now.known.now source.now.aims.now ends.old out.old cursor × (32 ≤ length stack.old) }
+    ensures { AnswersWalk source.now.table.now (lent_of env.old ends.old stack.old out.old)
+        (lent_of env.new ends.new stack.new out.new) top cursor result }
 {
-    let p = root(source, lent, stack, count, after, top, cursor);
+    let mut lent = Lent { env, ends, out };
+    let p = root(source, &mut lent, stack, count, after, top, cursor);
     procedures(
         source,
-        lent,
+        &mut lent,
         stack,
         count,
         top,
