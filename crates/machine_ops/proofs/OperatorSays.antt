@@ -17,7 +17,7 @@ use Rattle.words.specs.Numbers.{integer_of}
 use Rattle.values.specs.Types.{Ty, integer, logical, bits, reference, ty_byte}
 use Rattle.values.specs.Operators.{Unary, negate, absolute, complement, Binary, plus, minus, times, divide, remainder, less, at_most, greater, at_least, equal, unequal}
 use Rattle.values.specs.Operators.{both, either, shift_left, shift_right, unary_of, binary_of}
-use Rattle.values.specs.Arithmetic.{Outcome, gives, ends, mistyped, sum, difference, product, quotient, rest, negation, magnitude, each_bit, and_bits, or_bits, not_bits, shifted_left, shifted_right}
+use Rattle.values.specs.Arithmetic.{Outcome, gives, mistyped, sum, difference, product, quotient, rest, negation, magnitude, each_bit, and_bits, or_bits, not_bits, shifted_left, shifted_right}
 use Rattle.values.specs.Values.{int, log, map_outcome, arithmetic, ordering, shift, junction, equality, same_integer, same_ref, as_integer, asked, apply1, apply2}
 use Rattle.values.specs.Answers.{outcome_of}
 use Rattle.values.specs.declared.conditions.Condition.{Condition}

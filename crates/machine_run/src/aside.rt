@@ -52,11 +52,11 @@ pub fn begin(state: &mut [u8], frame: usize, depth: usize, op: u8, a: u8, b: u32
     match op {
         OP_LOAD => {
             let g = machine_ops::owner(frame, a);
-            let w = machine_frames::cell_word(state, g, b as usize);
-            let t = machine_frames::cell_type(state, g, b as usize);
+            let word = machine_frames::cell_word(state, g, b as usize);
+            let ty = machine_frames::cell_type(state, g, b as usize);
             Some(Begun {
-                word: w,
-                ty: t,
+                word,
+                ty,
                 depth,
                 steps: 1,
             })
@@ -72,12 +72,12 @@ pub fn begin(state: &mut [u8], frame: usize, depth: usize, op: u8, a: u8, b: u32
                 return None;
             }
             let k = depth - 1;
-            let w = machine_frames::operand_word(state, frame, k);
-            let t = machine_frames::operand_type(state, frame, k);
+            let word = machine_frames::operand_word(state, frame, k);
+            let ty = machine_frames::operand_type(state, frame, k);
             machine_frames::pop(state, frame, k);
             Some(Begun {
-                word: w,
-                ty: t,
+                word,
+                ty,
                 depth: k,
                 steps: 0,
             })
@@ -124,13 +124,13 @@ fn pair_up(
                 return None;
             }
             let k = depth - 1;
-            let x = machine_frames::operand_word(state, frame, k);
-            let u = machine_frames::operand_type(state, frame, k);
+            let left = machine_frames::operand_word(state, frame, k);
+            let ty = machine_frames::operand_type(state, frame, k);
             machine_frames::pop(state, frame, k);
             Some(Pair {
                 operator: a,
-                ty: u,
-                left: x,
+                ty,
+                left,
                 right: w,
                 depth: k,
                 steps: 1,
@@ -152,12 +152,12 @@ fn pair_up(
         OP_LOAD => {
             if follows(code, place, room) {
                 let g = machine_ops::owner(frame, a);
-                let y = machine_frames::cell_word(state, g, b as usize);
+                let right = machine_frames::cell_word(state, g, b as usize);
                 return Some(Pair {
                     operator: code[place + NEXT_A_AT],
                     ty: t,
                     left: w,
-                    right: y,
+                    right,
                     depth,
                     steps: 2,
                 });

@@ -22,13 +22,10 @@ fn top_of(state: &[u8]) -> Top
     requires { (length state.now ≡ state_length) × (1 ≤ byte_at state.now 2) × (byte_at state.now 2 ≤ 32) }
     ensures { (result.place ≡ 32 + activation_length * (byte_at state.now 2 - 1)) × (result.address ≡ half_at state.now (result.place + 4)) }
 {
-    let f = ACTIVATIONS_AT
+    let place = ACTIVATIONS_AT
         + ACTIVATION_BYTES * (machine_frames::wide(state[ACTIVATION_COUNT_AT]) - 1);
-    let i = words::half_at(state, f + ADDRESS_AT);
-    Top {
-        place: f,
-        address: i,
-    }
+    let address = words::half_at(state, place + ADDRESS_AT);
+    Top { place, address }
 }
 
 // The step after those taken, of a state that is releasing: the last taken hold is released; once none is open the state has ended.

@@ -2,7 +2,6 @@
 use native.Mathlib.Omega.{arith}
 use mathlib.Core.Path.{refl}
 use Rattle.machine_run.specs.Aside.{operates, pushes, loads}
-use borrow.Author.Rules.{rules}
 use Rattle.machine_run.proofs.aside.pair_up.Goals as goal
 
 pub returns-then-a-ge-UNARY : goal.returns-then-a-ge-UNARY
@@ -10,15 +9,6 @@ returns-then-a-ge-UNARY c = (refl, λ e. omega arith)
 
 pub overflow_sub-k : goal.overflow_sub-k
 overflow_sub-k c = omega (arith, c.requires.5 c.in-7.is (omega arith))
-
-pub operand_word-x-requires : goal.operand_word-x-requires
-operand_word-x-requires c = search rules
-
-pub operand_type-u-requires : goal.operand_type-u-requires
-operand_type-u-requires c = search rules
-
-pub pop-requires : goal.pop-requires
-pop-requires c = search rules
 
 pub follows-requires : goal.follows-requires
 follows-requires c = c.requires.3 c.in-1.is
@@ -39,11 +29,8 @@ returns-then-follows c =
 pub follows-requires-in-5 : goal.follows-requires-in-5
 follows-requires-in-5 c = (c.requires.4 c.in-5.is).0
 
-pub owner-g-requires : goal.owner-g-requires
-owner-g-requires c = search rules
-
-pub cell_word-y-requires : goal.cell_word-y-requires
-cell_word-y-requires c =
+pub cell_word-right-requires : goal.cell_word-right-requires
+cell_word-right-requires c =
     record { long = c.requires.0; place = c.owner-g.ensures.0; slot = (c.requires.4 c.in-5.is).1 }
 
 pub overflow_add-result-then-follows-2 : goal.overflow_add-result-then-follows-2
@@ -52,24 +39,18 @@ overflow_add-result-then-follows-2 c = omega (arith, (c.requires.4 c.in-5.is).0)
 pub bounds-code-place-then-follows-2 : goal.bounds-code-place-then-follows-2
 bounds-code-place-then-follows-2 c = omega (arith, (c.requires.4 c.in-5.is).0)
 
-pub shape_of-state-then-follows-2 : goal.shape_of-state-then-follows-2
-shape_of-state-then-follows-2 c = search rules
-
 pub returns-then-follows-2 : goal.returns-then-follows-2
 returns-then-follows-2 c =
     let F = c.follows-in-5.ensures c.if-follows-2.true in
     loads c.in-5.is
     (record { op = F.0; number = refl; low = F.1; allowed = F.2 })
-    (record { place = c.owner-g.result; own = c.owner-g.ensures.1; roots = c.owner-g.ensures.2; word = c.cell_word-y.ensures })
+    (record { place = c.owner-g.result; own = c.owner-g.ensures.1; roots = c.owner-g.ensures.2; word = c.cell_word-right.ensures })
     refl refl refl refl refl
-
-pub shape_of-state : goal.shape_of-state
-shape_of-state c = search rules
 
 pub returns-else-a-ge-UNARY : goal.returns-else-a-ge-UNARY
 returns-else-a-ge-UNARY c =
     operates c.in-7.is refl (omega arith)
-    (record { word = c.operand_word-x.ensures; type = c.operand_type-u.ensures; bytes = c.pop.ensures; depth = refl })
+    (record { word = c.operand_word-left.ensures; type = c.operand_type-ty.ensures; bytes = c.pop.ensures; depth = refl })
     refl refl
 
 pub returns-else-follows : goal.returns-else-follows

@@ -3,17 +3,7 @@ use mathlib.Core.Path.{refl, ap, ◌∙◌}
 use mathlib.Core.List.{List}
 use Prim.Native.Nat.{ℕ}
 use Rattle.machine_frames.specs.Bytes.{went_to}
-use borrow.Author.Rules.{rules}
 use Rattle.machine_run.proofs.aside.put_back.Goals as goal
-
-pub push-requires : goal.push-requires
-push-requires c = search rules
-
-pub go_to-requires : goal.go_to-requires
-go_to-requires c = search rules
-
-pub shape_of-state : goal.shape_of-state
-shape_of-state c = search rules
 
 pub returns : goal.returns
 returns c =
