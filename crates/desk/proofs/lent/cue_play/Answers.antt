@@ -1,4 +1,7 @@
 -- `desk::lent::cue_play` meets its contract.
+use mathlib.Core.Path.{◌≡◌, ap, ◌∙◌}
+use Rattle.std.specs.Prelude.{Ok}
+use Rattle.run.specs.declared.Played.TheVariants.{Spends, Finishes, Fills}
 use Rattle.desk.proofs.Laws as law
 use Rattle.desk.proofs.lent.cue_play.Goals as goal
 
@@ -9,15 +12,18 @@ pack_refusal-requires c =
 
 pub returns-in-Ok-Spends : goal.returns-in-Ok-Spends
 returns-in-Ok-Spends c =
-    law.plays _ _ _ _ _ _ _ c.play-p.result.answer _ c.play-p.ensures _ c.in-Ok-Spends.is _ c.pack.ensures
+    let q : c.in-Ok-Spends.field-0 ≡ Spends c.in-Ok-Spends.steps c.in-Ok-Spends.events = rw c.in-Ok-Spends.is at c.in-Ok-Spends.field-0-is in
+    law.plays _ _ _ _ _ _ _ c.play-p.result.answer _ c.play-p.ensures _ (c.in-Ok-Spends.is ∙ ap Ok q) _ c.pack.ensures
 
 pub returns-in-Ok-Finishes : goal.returns-in-Ok-Finishes
 returns-in-Ok-Finishes c =
-    law.plays _ _ _ _ _ _ _ c.play-p.result.answer _ c.play-p.ensures _ c.in-Ok-Finishes.is _ c.pack-in-Ok-Finishes.ensures
+    let q : c.in-Ok-Finishes.field-0 ≡ Finishes c.in-Ok-Finishes.end c.in-Ok-Finishes.steps c.in-Ok-Finishes.events = rw c.in-Ok-Finishes.is at c.in-Ok-Finishes.field-0-is in
+    law.plays _ _ _ _ _ _ _ c.play-p.result.answer _ c.play-p.ensures _ (c.in-Ok-Finishes.is ∙ ap Ok q) _ c.pack-in-Ok-Finishes.ensures
 
 pub returns-in-Ok-Fills : goal.returns-in-Ok-Fills
 returns-in-Ok-Fills c =
-    law.plays _ _ _ _ _ _ _ c.play-p.result.answer _ c.play-p.ensures _ c.in-Ok-Fills.is _ c.pack-in-Ok-Fills.ensures
+    let q : c.in-Ok-Fills.field-0 ≡ Fills c.in-Ok-Fills.steps c.in-Ok-Fills.events = rw c.in-Ok-Fills.is at c.in-Ok-Fills.field-0-is in
+    law.plays _ _ _ _ _ _ _ c.play-p.result.answer _ c.play-p.ensures _ (c.in-Ok-Fills.is ∙ ap Ok q) _ c.pack-in-Ok-Fills.ensures
 
 pub returns-in-Err : goal.returns-in-Err
 returns-in-Err c =
