@@ -32,11 +32,8 @@ fn wipe(state: &mut [u8], place: usize, from: usize, to: usize)
     requires { (length state.old ≡ state_length) × (place + to ≤ state_length) × (from < 131072) }
     ensures { state.new ≡ wipes state.old place ((from ⋯ to) ∷ []) }
 {
-    let end = place + to;
-    let mut i = place + from;
-    while i < end {
+    for i in place + from..place + to {
         state[i] = 0;
-        i += 1;
     }
 }
 
@@ -105,11 +102,9 @@ fn clear_activations(code: &[u8], bodies: &[u32], state: &mut [u8], count: usize
     ensures { state.new ≡ clear_activations (view code.now) count 32 state.old }
 {
     let mut place: usize = ACTIVATIONS_AT;
-    let mut left = count;
-    while 0 < left {
+    for i in 0..count {
         clear_activation(code, bodies, state, place);
         place += ACTIVATION_BYTES;
-        left -= 1;
     }
 }
 
@@ -118,11 +113,9 @@ fn clear_records(code: &[u8], classes: &[u32], state: &mut [u8], count: usize)
     ensures { state.new ≡ clear_records (view code.now) count records_at state.old }
 {
     let mut place: usize = RECORDS_AT;
-    let mut left = count;
-    while 0 < left {
+    for i in 0..count {
         clear_record(code, classes, state, place);
         place += RECORD_BYTES;
-        left -= 1;
     }
 }
 

@@ -17,11 +17,7 @@ fn clear_all(state: &mut [u8])
     requires { length state.old ≡ state_length }
     ensures { state.new ≡ zeros state_length }
 {
-    let mut i: usize = 0;
-    while i < STATE_BYTES {
-        state[i] = 0;
-        i += 1;
-    }
+    state.fill(0);
 }
 
 // The root's cell j, of type t, which starts as 0, false, #0 or null: the word 0.
@@ -38,10 +34,8 @@ fn write_cells(code: &[u8], place: usize, state: &mut [u8], count: usize)
     requires { (place + count ≤ length code.now) × (count ≤ 32) × (Typed code.now place count) × (state.old ≡ encode (fresh_with code.now place 0)) }
     ensures { state.new ≡ encode (fresh_with code.now place count) }
 {
-    let mut j: usize = 0;
-    while j < count {
+    for j in 0..count {
         write_cell(state, j, code[place + j]);
-        j += 1;
     }
 }
 

@@ -6,7 +6,4 @@ use Rattle.bytecode.specs.State.{zeros, state_length}
 use Rattle.state_write.proofs.clearing.wipe.Given as goal
 
 abbrev pub invariant-loop-i : goal.invariant-loop-i
-invariant-loop-i l = (l.place + l.from ≤ l.i) × (l.i ≤ l.place + l.from + (l.to - l.from)) × (length l.state ≡ state_length) × (l.state ≡ sets l.initial.state (l.place + l.from) (zeros (l.i - (l.place + l.from))))
-
-abbrev pub decreases-loop-i : goal.decreases-loop-i
-decreases-loop-i l = l.end - l.i
+invariant-loop-i l = (l.i ≤ l.place + l.from + (l.to - l.from)) × (length l.state ≡ state_length) × (l.state ≡ sets l.initial.state (l.place + l.from) (zeros (l.i - (l.place + l.from))))
