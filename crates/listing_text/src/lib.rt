@@ -14,22 +14,21 @@ ghost use Rattle.listing_text.specs.Writing.{Lists};
 
 use formats::limits::*;
 use formats::state::*;
-use run::{Played, Started};
+use run::Played;
 use totals::Totals;
+use values::Refusal;
 
 // The bytes lent to a play for its answers: 512 events.
 const ROOM: usize = 4096;
 
 // The steps of a play that stopped for want of room; 0 of any other, after which there is nothing left to play. A play has room for an event, and every
 // event takes a step.
-fn full_steps(p: &Played) -> u16
+fn full_steps(p: &Result<Played, Refusal>) -> u16
     ensures { result ≡ full_steps (play_numbers p.now) }
 {
     match p {
-        Played::Spends(_, _) => 0,
-        Played::Finishes(_, _, _) => 0,
-        Played::Fills(n, _) => *n,
-        Played::Refused(_) => 0,
+        Ok(Played::Fills(n, _)) => *n,
+        _ => 0,
     }
 }
 
@@ -52,10 +51,9 @@ fn list_runs(code: &[u8], state: &mut [u8], text: &mut [u8]) -> usize
     let mut goes = true;
     while goes {
         let p = run::play(code, state, &readings, left, &mut answers);
-        let answer = p.answer;
-        all = totals::count_play(all, &answers, &answer, p.readings);
-        let n = full_steps(&answer);
-        at = plays::put_played(text, at, &answers, answer, all);
+        all = totals::count_play(all, &answers, &p.answer, p.readings);
+        at = plays::put_played(text, at, &answers, &p.answer, all);
+        let n = full_steps(&p.answer);
         left -= n;
         goes = 0 < n;
     }
@@ -68,8 +66,8 @@ fn list_macro(code: &[u8], state: &mut [u8], text: &mut [u8]) -> usize
     ensures { Lists (macro_text code.now state.old) text.old text.new result }
 {
     match run::start(code, state) {
-        Started::Refused(refusal) => lines::put_refused(text, 0, refusal),
-        Started::Fresh => list_runs(code, state, text),
+        Ok(()) => list_runs(code, state, text),
+        Err(refusal) => lines::put_refused(text, 0, refusal),
     }
 }
 

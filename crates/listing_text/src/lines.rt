@@ -24,12 +24,9 @@ fn put_word(text: &mut [u8], at: usize, word: &[u8]) -> usize
     requires { at + length word.now ≤ length text.old }
     ensures { Puts text.old at word.now text.new result }
 {
-    let mut i = 0;
-    while i < word.len() {
-        text[at + i] = word[i];
-        i += 1;
-    }
-    at + i
+    let next = at + word.len();
+    text[at..next].copy_from_slice(word);
+    next
 }
 
 // A number after a space.

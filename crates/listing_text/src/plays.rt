@@ -10,6 +10,7 @@ use crate::lines::{put_line_1, put_line_2, put_refused};
 use crate::totals::{Totals, events_of};
 use packing::ANSWER_BYTES;
 use run::Played;
+use values::Refusal;
 
 // Where the fields of a packed answer stand in its bytes: after the tag and the steps a channel or a group, then a level.
 const FIRST_AT: usize = 3;
@@ -34,10 +35,8 @@ fn put_events(text: &mut [u8], at: usize, answers: &[u8], events: usize) -> usiz
     ensures { Puts text.old at (event_lines answers.now 0 events) text.new result }
 {
     let mut next = at;
-    let mut i = 0;
-    while i < events {
+    for i in 0..events {
         next = put_event(text, next, answers, ANSWER_BYTES * i);
-        i += 1;
     }
     next
 }
@@ -63,23 +62,28 @@ fn put_end(text: &mut [u8], at: usize, t: Totals, word: &[u8], n: u32) -> usize
 }
 
 // What follows a play's events, with the totals after it; nothing where it stopped for want of room.
-fn put_last(text: &mut [u8], at: usize, p: Played, t: Totals) -> usize
-    requires { at + length (last_text (play_numbers p) (totals_of t)) ≤ length text.old }
-    ensures { Puts text.old at (last_text (play_numbers p) (totals_of t)) text.new result }
+fn put_last(text: &mut [u8], at: usize, p: &Result<Played, Refusal>, t: Totals) -> usize
+    requires { at + length (last_text (play_numbers p.now) (totals_of t)) ≤ length text.old }
+    ensures { Puts text.old at (last_text (play_numbers p.now) (totals_of t)) text.new result }
 {
     match p {
-        Played::Spends(_, _) => put_end(text, at, t, b"open", 0),
-        Played::Finishes(c, _, _) => put_end(text, at, t, b"end", c as u32),
-        Played::Fills(_, _) => at,
-        Played::Refused(refusal) => put_refused(text, at, refusal),
+        Ok(Played::Spends(_, _)) => put_end(text, at, t, b"open", 0),
+        Ok(Played::Finishes(c, _, _)) => put_end(text, at, t, b"end", *c as u32),
+        Ok(Played::Fills(_, _)) => at,
+        Err(refusal) => put_refused(text, at, *refusal),
     }
 }
 
-pub fn put_played(text: &mut [u8], at: usize, answers: &[u8], p: Played, t: Totals) -> usize
-    requires { (8 * events_of (play_numbers p) ≤ length answers.now) × (at + length (play_text answers.now (play_numbers p) (totals_of t)) ≤ length text.old) }
-    ensures { Puts text.old at (play_text answers.now (play_numbers p) (totals_of t)) text.new result }
+pub fn put_played(
+    text: &mut [u8],
+    at: usize,
+    answers: &[u8],
+    p: &Result<Played, Refusal>,
+    t: Totals,
+) -> usize
+    requires { (8 * events_of (play_numbers p.now) ≤ length answers.now) × (at + length (play_text answers.now (play_numbers p.now) (totals_of t)) ≤ length text.old) }
+    ensures { Puts text.old at (play_text answers.now (play_numbers p.now) (totals_of t)) text.new result }
 {
-    let events = events_of(&p);
-    let next = put_events(text, at, answers, events);
+    let next = put_events(text, at, answers, events_of(p));
     put_last(text, next, p, t)
 }

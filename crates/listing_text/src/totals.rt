@@ -6,6 +6,7 @@ ghost use Rattle.listing_text.specs.Counting.{totals_of, Roomy};
 
 use packing::ANSWER_BYTES;
 use run::Played;
+use values::Refusal;
 
 #[derive(Clone, Copy)]
 pub struct Totals {
@@ -23,21 +24,15 @@ fn count(t: Totals, tag: u8) -> Totals
     match tag {
         4 => Totals {
             sets: t.sets + 1,
-            holds: t.holds,
-            releases: t.releases,
-            readings: t.readings,
+            ..t
         },
         5 => Totals {
-            sets: t.sets,
             holds: t.holds + 1,
-            releases: t.releases,
-            readings: t.readings,
+            ..t
         },
         _ => Totals {
-            sets: t.sets,
-            holds: t.holds,
             releases: t.releases + 1,
-            readings: t.readings,
+            ..t
         },
     }
 }
@@ -47,37 +42,32 @@ fn count_events(t: Totals, answers: &[u8], events: usize) -> Totals
     ensures { totals_of result ≡ count_tags answers.now 0 events (totals_of t) }
 {
     let mut all = t;
-    let mut i = 0;
-    while i < events {
+    for i in 0..events {
         all = count(all, answers[ANSWER_BYTES * i]);
-        i += 1;
     }
     all
 }
 
 // How many events a play wrote; none where it is refused.
-pub fn events_of(p: &Played) -> usize
+pub fn events_of(p: &Result<Played, Refusal>) -> usize
     ensures { result ≡ events_of (play_numbers p.now) }
 {
     match p {
-        Played::Spends(_, events) => *events as usize,
-        Played::Finishes(_, _, events) => *events as usize,
-        Played::Fills(_, events) => *events as usize,
-        Played::Refused(_) => 0,
+        Ok(Played::Spends(_, events) | Played::Finishes(_, _, events) | Played::Fills(_, events)) =>
+            *events as usize,
+        Err(_) => 0,
     }
 }
 
 // With a play's events and the readings that its runs took.
-pub fn count_play(t: Totals, answers: &[u8], p: &Played, readings: u16) -> Totals
+pub fn count_play(t: Totals, answers: &[u8], p: &Result<Played, Refusal>, readings: u16) -> Totals
     requires { (8 * events_of (play_numbers p.now) ≤ length answers.now) × (Roomy (totals_of t) 65536) × (length answers.now ≤ 65536) }
     ensures { totals_of result ≡ play_totals answers.now (play_numbers p.now) readings (totals_of t) }
 {
     let events = events_of(p);
     let all = count_events(t, answers, events);
     Totals {
-        sets: all.sets,
-        holds: all.holds,
-        releases: all.releases,
         readings: all.readings + (readings as u32),
+        ..all
     }
 }

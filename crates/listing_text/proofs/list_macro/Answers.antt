@@ -8,16 +8,16 @@ use Rattle.listing_text.specs.Whole.{macro-text}
 use Rattle.listing_text.proofs.list_macro.Goals as goal
 
 pub put_refused-requires : goal.put_refused-requires
-put_refused-requires c = omega (arith, c.requires, refused-fits c.in-Refused.refusal.number c.in-Refused.refusal.place (omega arith) (omega arith))
+put_refused-requires c = omega (arith, c.requires, refused-fits c.in-Err.refusal.number c.in-Err.refusal.place (omega arith) (omega arith))
 
 pub list_runs-requires : goal.list_runs-requires
 list_runs-requires c = omega (arith, c.requires, lines_fit c.args.code.now (λ k. (c.type_inv.code k).fits) c.start.new.state)
 
-pub returns-in-Refused : goal.returns-in-Refused
-returns-in-Refused c =
-    let fits : length (refused_line (refusal_of c.in-Refused.refusal)) ≤ text_room = refused-fits c.in-Refused.refusal.number c.in-Refused.refusal.place (omega arith) (omega arith) in
-    rw (macro-text c.args.code.now c.args.state.now _ _ c.in-Refused.ensures)
+pub returns-in-Err : goal.returns-in-Err
+returns-in-Err c =
+    let fits : length (refused_line (refusal_of c.in-Err.refusal)) ≤ text_room = refused-fits c.in-Err.refusal.number c.in-Err.refusal.place (omega arith) (omega arith) in
+    rw (macro-text c.args.code.now c.args.state.now _ _ c.in-Err.ensures)
     (in-front _ _ _ _ (omega (arith, c.requires, fits)) c.put_refused.ensures)
 
-pub returns-in-Fresh : goal.returns-in-Fresh
-returns-in-Fresh c = rw (macro-text c.args.code.now c.args.state.now _ _ c.in-Fresh.ensures) c.list_runs.ensures
+pub returns-in-Ok : goal.returns-in-Ok
+returns-in-Ok c = rw (macro-text c.args.code.now c.args.state.now _ _ c.in-Ok.ensures) c.list_runs.ensures

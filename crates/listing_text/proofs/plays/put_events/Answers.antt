@@ -11,14 +11,14 @@ put_event-next-requires c =
     let i = c.loop-i.i in
     let e = next-event answers i c.args.events c.loop-i-test.true in (
       omega (arith, c.requires.0, c.loop-i-test.true),
-      room-left _ _ _ _ _ _ c.loop-i.invariant.1 (line_at answers (8 * i)) _ e c.requires.1,
+      room-left _ _ _ _ _ _ c.loop-i.invariant (line_at answers (8 * i)) _ e c.requires.1,
     )
 
 pub loop-i-preserved : goal.loop-i-preserved
 loop-i-preserved c =
     let e = next-event c.args.answers.now c.loop-i.i c.args.events c.loop-i-test.true in
-    (omega (arith, c.loop-i-test.true), goes_left _ _ _ _ _ _ c.loop-i.invariant.1 _ _ _ _ e c.put_event-next.ensures)
+    goes_left _ _ _ _ _ _ c.loop-i.invariant _ _ _ _ e c.put_event-next.ensures
 
 pub returns : goal.returns
 returns c =
-    finished _ _ _ _ _ _ c.loop-i.invariant.1 (no-event c.args.answers.now c.loop-i.i c.args.events c.loop-i-test.false)
+    finished _ _ _ _ _ _ c.loop-i.invariant (no-event c.args.answers.now c.loop-i.i c.args.events c.loop-i-test.false)

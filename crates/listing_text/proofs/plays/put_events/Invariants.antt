@@ -4,8 +4,4 @@ use Rattle.listing_text.specs.Writing.{Left}
 use Rattle.listing_text.proofs.plays.put_events.Given as goal
 
 abbrev pub invariant-loop-i : goal.invariant-loop-i
-invariant-loop-i l =
-    (l.i ≤ l.events) × Left l.initial.text l.at (event_lines l.answers 0 l.events) l.text l.next (event_lines l.answers l.i (l.events - l.i))
-
-abbrev pub decreases-loop-i : goal.decreases-loop-i
-decreases-loop-i l = l.events - l.i
+invariant-loop-i l = Left l.initial.text l.at (event_lines l.answers 0 l.events) l.text l.next (event_lines l.answers l.i (l.events - l.i))

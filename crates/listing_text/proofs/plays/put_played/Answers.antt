@@ -7,5 +7,5 @@ use Rattle.listing_text.proofs.plays.put_played.Goals as goal
 pub returns : goal.returns
 returns c =
     join _ _ _ _ _ _ _ _
-    (puts-as (ap (event_lines c.args.answers.now 0) (sym c.events_of-events.ensures)) c.put_events-next.ensures)
+    (puts-as (ap (event_lines c.args.answers.now 0) (sym c.events_of.ensures)) c.put_events-next.ensures)
     c.put_last.ensures

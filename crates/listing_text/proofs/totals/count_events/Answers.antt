@@ -13,10 +13,9 @@ loop-i-preserved c =
     let t = totals_of c.loop-i.all in
     let tag = byte_at c.args.answers.now (8 * c.loop-i.i) in
     let h = c.loop-i-test.true in (
-      omega (arith, h),
-      rw c.count-all.ensures (grown-below 1 _ (omega (arith, h)) (tag-grown tag t) c.loop-i.invariant.1),
-      rw c.count-all.ensures (sym (next-tag _ _ _ _ h) ∙ c.loop-i.invariant.2),
+      rw c.count-all.ensures (grown-below 1 _ (omega (arith, h)) (tag-grown tag t) c.loop-i.invariant.0),
+      rw c.count-all.ensures (sym (next-tag _ _ _ _ h) ∙ c.loop-i.invariant.1),
     )
 
 pub returns : goal.returns
-returns c = sym (no-tag _ _ _ _ c.loop-i-test.false) ∙ c.loop-i.invariant.2
+returns c = sym (no-tag _ _ _ _ c.loop-i-test.false) ∙ c.loop-i.invariant.1

@@ -6,7 +6,4 @@ use Rattle.listing_text.proofs.totals.count_events.Given as goal
 
 abbrev pub invariant-loop-i : goal.invariant-loop-i
 invariant-loop-i l =
-    (l.i ≤ l.events) × (Roomy (totals_of l.all) (l.events - l.i)) × (count_tags l.answers l.i (l.events - l.i) (totals_of l.all) ≡ count_tags l.answers 0 l.events (totals_of l.initial.all))
-
-abbrev pub decreases-loop-i : goal.decreases-loop-i
-decreases-loop-i l = l.events - l.i
+    (Roomy (totals_of l.all) (l.events - l.i)) × (count_tags l.answers l.i (l.events - l.i) (totals_of l.all) ≡ count_tags l.answers 0 l.events (totals_of l.initial.all))
