@@ -130,14 +130,6 @@ admitted-none d s l h = rw (entries_none l h) (never (ltb 0 d))
     never true = refl
     never false = refl
 
-pub admitted-other : (d : ℕ) (s : Sort) (es : List Entry) → admits s (kind_at es) ≡ false → false ≡ admitted_at d s es
-admitted-other d s es e = rw e (never (ltb 0 d) (laid_at es))
-  where
-    never : (b c : Bool) → false ≡ (b && (c && false))
-    never true true = refl
-    never true false = refl
-    never false c = refl
-
 pub admitted-laid : (d : ℕ) (s : Sort) (es : List Entry) → (d ≡ 0 → ⊥) → admits s (kind_at es) ≡ true → laid_at es ≡ admitted_at d s es
 admitted-laid d s es h e = rw (lt-ltb 0 d (omega arith), e) (plain (laid_at es))
   where
