@@ -100,7 +100,8 @@ fn procedure(
 ) -> Cursor
     requires { AsksProc source.now.table.now part.now at source.now.sizes.now lent.old.env.now top source.now.known.now source.now.aims.now lent.old.ends.now stack.old lent.old.out.now cursor }
     ensures same { Same lent.old lent.new }
-    ensures answers { AnswersProc source.now.table.now part.now at source.now.sizes.now (arrays lent.old stack.old) (arrays lent.new stack.new) top source.now.known.now source.now.aims.now cursor result }
+    ensures answers { AnswersProc source.now.table.now part.now at source.now.sizes.now (arrays lent.old stack.old)
+        (arrays lent.new stack.new) top source.now.known.now source.now.aims.now cursor result }
 {
     let heading = table_entries::b_at(part, 0);
     let parameters = heading as usize / 256;
@@ -150,7 +151,8 @@ fn global(
 ) -> Cursor
     requires { AsksGlobal source.now.table.now part.now at source.now.sizes.now (arrays lent.old stack.old) top source.now.known.now source.now.aims.now cursor }
     ensures same { Same lent.old lent.new }
-    ensures answers { AnswersGlobal source.now.table.now part.now at source.now.sizes.now (arrays lent.old stack.old) (arrays lent.new stack.new) top source.now.known.now source.now.aims.now cursor result }
+    ensures answers { AnswersGlobal source.now.table.now part.now at source.now.sizes.now (arrays lent.old stack.old)
+        (arrays lent.new stack.new) top source.now.known.now source.now.aims.now cursor result }
 {
     if table_entries::kind_at(part, 0) == KIND_PROCEDURE {
         return procedure(source, lent, stack, part, at, top, cursor);
