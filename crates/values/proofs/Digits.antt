@@ -1,9 +1,11 @@
 -- What the proofs of the operators on bits cite. Assumes nothing.
 use mathlib.Core.Path.{◌≡◌, refl, ◌∙◌}
 use mathlib.Core.Bool.{Bool, true, false}
-use Prim.Native.Nat.{ℕ, zero, suc, ◌+◌, ◌*◌, ◌/◌, ◌%◌, ◌^◌, ◌≤◌, ◌<◌}
+use Prim.Native.Nat.{ℕ, zero, suc, ◌+◌, ◌*◌, ◌/◌, ◌%◌, ◌^◌, ◌<◌}
 use native.Mathlib.Nat.{pow-suc}
 use native.Mathlib.Omega.{arith}
+use lib.Dec.{ltb}
+use Rattle.std.specs.Bool.{if◌then◌else◌}
 use lib.IntN.{ℤ, pos, negsuc, nat_abs}
 use lib.Signed.{lt_z, le_z}
 use borrow.Author.Tests.{le-ltb, le-leb}
@@ -23,11 +25,22 @@ module _ (f op : ℕ → ℕ → ℕ) (none : op 0 0 ≡ 0) (step : (a b : ℕ) 
       let k' : b < 2 ^ n * 2 = rw (← pow-suc 2 n) k in
       step a b ∙ rw (by_bits n (a / 2) (b / 2) (omega arith) (omega arith))
 
--- a count past the last place
-pub moved_out : (left : Bool) (n x : ℕ) → 32 ≤ n → 0 ≡ (If left then left_by n x else right_by n x)
-unfolding left_by right_by
-moved_out true n x h = rw (le-ltb n 32 h)
-moved_out false n x h = rw (le-ltb n 32 h)
+-- std's shift by any count
+pub any_left : (n x : ℕ) → (if ltb n 32 then (x * 2 ^ n) % 4294967296 else 0) ≡ left_by n x
+unfolding left_by
+any_left n x = go (ltb n 32)
+  where
+    go : (t : Bool) → (if t then (x * 2 ^ n) % 4294967296 else 0) ≡ (If t then (x * 2 ^ n) % 4294967296 else 0)
+    go true = refl
+    go false = refl
+
+pub any_right : (n x : ℕ) → (if ltb n 32 then x / 2 ^ n else 0) ≡ right_by n x
+unfolding right_by
+any_right n x = go (ltb n 32)
+  where
+    go : (t : Bool) → (if t then x / 2 ^ n else 0) ≡ (If t then x / 2 ^ n else 0)
+    go true = refl
+    go false = refl
 
 -- a shift, by the sign of its count
 pub shifts_left : (x : ℕ) (n : ℤ) → shifted_left x n ≡ (If le_z (pos 0) n then left_by (nat_abs n) x else right_by (nat_abs n) x)

@@ -1,5 +1,4 @@
-// Operators on integers of 32 bits: exact, or ended by a condition. + − × go by way of 64 bits, which hold every exact result;
-// the others meet a zero divisor and the one operand pair that leaves 32 bits first, and compute in 32 bits.
+// Operators on integers of 32 bits: exact, or ended by a condition. + − × go by way of 64 bits, which hold every exact result.
 ghost use Rattle.std.specs.Prelude.{◌≡◌, not};
 ghost use Rattle.std.specs.Int.Signed.{lt_z, le_z};
 ghost use Rattle.values.specs.Arithmetic.{settle as exactly, sum, difference, product, quotient, rest, negation, magnitude};
@@ -42,19 +41,13 @@ pub fn multiply(x: i32, y: i32) -> Result<i32, Condition>
 pub fn negate(x: i32) -> Result<i32, Condition>
     ensures { outcome_of result ≡ negation x }
 {
-    if x == -2147483648 {
-        return Err(Condition::Overflow);
-    }
-    Ok(-x)
+    x.checked_neg().ok_or(Condition::Overflow)
 }
 
 pub fn absolute(x: i32) -> Result<i32, Condition>
     ensures { outcome_of result ≡ magnitude x }
 {
-    if x < 0 {
-        return negate(x);
-    }
-    Ok(x)
+    if x < 0 { negate(x) } else { Ok(x) }
 }
 
 pub fn divide(x: i32, y: i32) -> Result<i32, Condition>
@@ -63,10 +56,7 @@ pub fn divide(x: i32, y: i32) -> Result<i32, Condition>
     if y == 0 {
         return Err(Condition::ZeroDivisor);
     }
-    if y == -1 { // the only divisor by which a quotient can leave 32 bits
-        return negate(x);
-    }
-    Ok(x / y)
+    x.checked_div(y).ok_or(Condition::Overflow)
 }
 
 pub fn remainder(x: i32, y: i32) -> Result<i32, Condition>
@@ -75,10 +65,7 @@ pub fn remainder(x: i32, y: i32) -> Result<i32, Condition>
     if y == 0 {
         return Err(Condition::ZeroDivisor);
     }
-    if y == -1 { // the machine has no remainder where it has no quotient
-        return Ok(0);
-    }
-    Ok(x % y)
+    Ok(x.wrapping_rem(y)) // that by −1 is 0, also where the quotient leaves 32 bits
 }
 
 pub fn less(x: i32, y: i32) -> bool
