@@ -1,4 +1,4 @@
-use Prim.Native.Nat.{◌-◌, ◌≤◌}
+use Prim.Native.Nat.{◌-◌}
 use Rattle.listing_text.specs.Told.{event_lines}
 use Rattle.listing_text.specs.Writing.{Left}
 use Rattle.listing_text.proofs.plays.put_events.Given as goal

@@ -1,5 +1,5 @@
 use mathlib.Core.Path.{◌≡◌}
-use Prim.Native.Nat.{◌-◌, ◌≤◌}
+use Prim.Native.Nat.{◌-◌}
 use Rattle.listing_text.specs.Told.{count_tags}
 use Rattle.listing_text.specs.Counting.{totals_of, Roomy}
 use Rattle.listing_text.proofs.totals.count_events.Given as goal
