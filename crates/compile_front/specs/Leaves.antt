@@ -1,5 +1,5 @@
 -- The types of entries one after the other, and their count.
-use Rattle.std.specs.Prelude.{◌≡◌, refl, Bool, true, false, ℕ, ◌+◌, ◌*◌, ◌/◌, ◌≤◌, ◌<◌, eqb, nat_abs, length, get_or, replicate}
+use Rattle.std.specs.Prelude.{◌≡◌, refl, Bool, true, false, ℕ, zero, suc, ◌+◌, ◌-◌, ◌*◌, ◌/◌, ◌≤◌, ◌<◌, eqb, nat_abs, length, set, get_or, replicate}
 use Rattle.std.proofs.Math.Path.{ap}
 use Rattle.std.proofs.Common.{sym, ◌∙◌, arith}
 use mathlib.Core.List.{List, [], ◌∷◌, ◌++◌}
@@ -15,6 +15,27 @@ use Rattle.compile_symbols.specs.Entries.{cells_of_kind, cells-few}
 use Rattle.compile_front.specs.Types.{types_of, types-append, types-end}
 use Rattle.compile_front.specs.Told.{TypesKnown}
 use Rattle.compile_front.specs.Writing.{Wrote, wrote_as, Writing, writing_start, writing-next, writing-room, writing-end}
+
+-- ── a byte so many times ──
+pub record SameWriting (old : List ℕ) (from count v : ℕ) (new : List ℕ) (at left : ℕ) : Type 0 where
+  pub writing : Writing old from (replicate count v) new at (replicate left v)
+
+pub same_start : (old : List ℕ) (from count v : ℕ) → SameWriting old from count v old from count
+same_start old from count v = record { writing = writing_start old from (replicate count v) }
+
+same_more : (left v : ℕ) → 0 < left → replicate left v ≡ v ∷ replicate (left - 1) v
+same_more zero v h = absurd (omega arith)
+same_more (suc left) v h = let e : suc left - 1 ≡ left = omega arith in rw e
+
+module _ {old new : List ℕ} {from count v at left : ℕ} (s : SameWriting old from count v new at left) where
+  pub same-room : from + count ≤ length old → at + left ≤ length new
+  same-room h = omega (arith, s.writing.whole, s.writing.long, length-replicate left v, length-replicate count v)
+
+  pub same_next : 0 < left → SameWriting old from count v (set new at v) (at + 1) (left - 1)
+  same_next h = record { writing = writing-next s.writing (v ∷ []) (replicate (left - 1) v) (same_more left v h) (record { written = refl; ends = refl }) }
+
+  pub same-done : left ≡ 0 → Wrote old from (replicate count v) new at
+  same-done e = writing-end s.writing (ap (λ (n : ℕ). replicate n v) e)
 
 -- ── one entry ──
 type-same : (a b c : Bool) (x v : ℕ) → (0 < (If a then 1 else If b then 1 else If c then 3 else 0) → v ≡ (If a then x else 1))

@@ -1,9 +1,9 @@
 -- What one instruction and one shape come to: the cursor after it, and the output's bytes after it.
-use Rattle.std.specs.Prelude.{◌≡◌, refl, Bool, true, false, List, ◌∷◌, ◌++◌, ℕ, ◌+◌, ◌^◌, ◌≤◌, ◌<◌, length, set, take, drop}
-use Rattle.std.proofs.Common.{ap, sym, ◌∙◌, length-take-le}
+use Rattle.std.specs.Prelude.{◌≡◌, refl, Bool, true, false, List, ◌∷◌, ◌++◌, ℕ, suc, ◌+◌, ◌^◌, ◌≤◌, ◌<◌, length, set, take, drop, get_or}
+use Rattle.std.proofs.Common.{ap, sym, ◌∙◌, arith, length-take-le}
 use Rattle.std.proofs.Math.Numerals.{towards_suc}
 use Rattle.std.proofs.lemmas.List.Edits.{sets, sets-eq}
-use Rattle.std.proofs.Math.Seq.{length-sets, paste}
+use Rattle.std.proofs.Math.Seq.{length-sets, paste, paste-suc}
 use Rattle.logic.specs.Choice.{If◌then◌else◌}
 use Rattle.words.specs.Numbers.{word, half}
 use Rattle.compile_output.specs.declared.Cursor.{Cursor}
@@ -97,6 +97,9 @@ module _ (p : Cursor) (l : List ℕ) (h d : ℕ) (ts : List ℕ) where
 pub pasted : (d s : List ℕ) (i n : ℕ) → i + n ≤ length d → n ≤ length s → paste d i s n ≡ sets d i (take n s)
 pasted d s i n hd hs =
     sym (sets-eq (take n s) d i (rw (length-take-le n s hs) hd) ∙ ap (λ (k : ℕ). take i d ++ take n s ++ drop (i + k) d) (length-take-le n s hs))
+
+pub paste-turn : (d s : List ℕ) (i j : ℕ) → i + j < length d → j < length s → set (paste d i s j) (i + j) (get_or s j 0) ≡ paste d i s (j + 1)
+paste-turn d s i j hd hs = paste-suc d i s j 0 hd hs ∙ ap (λ (k : ℕ). paste d i s k) (let z : suc j ≡ j + 1 = omega arith in z)
 
 pub shape-written : (l : List ℕ) (i a h d : ℕ) (ts : List ℕ)
     → sets (set (set (sets (set (set l i 83) (i + 1) 72) (i + 2) (half a)) (i + 4) h) (i + 5) d) (i + 6) ts ≡ sets l i (shape_record a h d ts)

@@ -1,6 +1,7 @@
 -- The fresh state of a macro, with the first of the root's cells written, and what each store makes of its bytes.
-use Rattle.std.specs.Prelude.{◌≡◌, refl, List, [], ◌∷◌, ◌++◌, ℕ, zero, suc, ◌+◌, ◌*◌, ◌≤◌, ◌<◌, length}
-use Rattle.std.proofs.Common.{ap, ◌∙◌, zero-add, add-one, arith}
+use Rattle.std.specs.Prelude.{◌≡◌, refl, List, [], ◌∷◌, ◌++◌, ℕ, zero, suc, ◌+◌, ◌*◌, ◌≤◌, ◌<◌, length, get_or, set}
+use Rattle.std.proofs.Common.{sym, ap, ◌∙◌, zero-add, add-one, arith, below_more, ext_get_or, get_or-set_same, get_or-set_other}
+use Rattle.std.proofs.lemmas.List.{length-replicate, get_or-replicate}
 use Rattle.std.proofs.lemmas.List.Edits.{sets}
 use Rattle.bytecode.specs.Words.{value_word}
 use Rattle.words.specs.Numbers.{byte_at, word}
@@ -29,6 +30,20 @@ unfolding fresh_with fresh_machine view
 fresh-is c W = rw (root-of c (bodies c) (some-body c W))
 
 -- ── the stores ──
+pub cleared_more : (l : List ℕ) (i : ℕ) → i < length l → ((k : ℕ) → k < i → get_or l k 0 ≡ 0) → (k : ℕ) → k < i + 1 → get_or (set l i 0) k 0 ≡ 0
+cleared_more l i h g = below_more (λ (k : ℕ). get_or (set l i 0) k 0 ≡ 0) i (λ k p. get_or-set_other l i k 0 0 (λ e. omega arith) ∙ g k p) (get_or-set_same l i 0 0 h)
+
+zeros-at : (k : ℕ) → k < state_length → get_or (zeros state_length) k 0 ≡ 0
+unfolding zeros
+zeros-at k h = get_or-replicate state_length k 0 0 h
+
+zeros-length : length (zeros state_length) ≡ state_length
+unfolding zeros
+zeros-length = length-replicate {A = ℕ} state_length 0
+
+pub cleared-all : (l : List ℕ) → length l ≡ state_length → ((k : ℕ) → k < state_length → get_or l k 0 ≡ 0) → l ≡ zeros state_length
+cleared-all l e g = ext_get_or 0 l (zeros state_length) (e ∙ sym zeros-length) (λ k p. let h : k < state_length = omega arith in g k h ∙ sym (zeros-at k h))
+
 pub fresh-none : (c : List ℕ) (q : ℕ) → sets (zeros state_length) 2 (1 ∷ []) ≡ encode (fresh_with c q 0)
 unfolding fresh_with span fresh_all
 fresh-none c q = begin-law
