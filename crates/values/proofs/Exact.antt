@@ -2,24 +2,20 @@
 -- A test for one integer is a fact of its bits, as word_of has them. Assumes nothing.
 use mathlib.Core.Path.{◌≡◌, refl, sym, ap, ◌∙◌}
 use mathlib.Core.Bool.{Bool, true, false}
-use Prim.Native.Nat.{ℕ, zero, suc, ◌+◌, ◌*◌, ◌≤◌, ◌<◌}
-use native.Mathlib.Nat.{mul-le-mul}
+use Prim.Native.Nat.{ℕ, zero, suc, ◌+◌, ◌*◌, ◌/◌, ◌≤◌, ◌<◌}
+use native.Mathlib.Nat.{mul-le-mul, div-le_self, div-lt_self, div-one, mod-one}
 use native.Mathlib.Omega.{arith}
 use lib.Dec.{eqb, ltb}
 use lib.IntN.{ℤ, pos, negsuc, neg_ℤ, nat_abs, sub_ℕ, ◌+ℤ◌, ◌-ℤ◌, ◌*ℤ◌, +ℤ_idl}
-use lib.Signed.{mag, mag_rem, lt_z, le_z, rem_z}
+use lib.Signed.{mag, mag_rem, lt_z, le_z, quot_z, rem_z}
 use borrow.Author.Tests.{lt-ltb, le-ltb, ltb-true, ltb-false, le-leb, leb-true, eq-eqb, ne_eqb}
 use mir.Syntax.{w32, w64}
 use mir.Val.{SFits, to_z, of_z}
 use mir.ValLaws.{to_z-of_z}
-use Rattle.std.specs.Prelude.{Option, Some, None}
-use Rattle.std.specs.Option.{SomeIff, ok_or}
 use Rattle.words.specs.Numbers.{integer_of, word_of}
 use Rattle.words.specs.Integers.{widen, widened}
-use Rattle.values.specs.Arithmetic.{Outcome, gives, ends, settle, is_zero, unless_zero, rest}
+use Rattle.values.specs.Arithmetic.{Outcome, gives, ends, settle, is_zero, unless_zero, quotient, rest, negation}
 use Rattle.values.specs.Values.{same_integer}
-use Rattle.values.specs.Answers.{outcome_of}
-use Rattle.values.specs.declared.conditions.Condition.TheVariants as condition
 use Rattle.logic.specs.Tests.{halves}
 
 -- ── by way of 64 bits ──
@@ -107,19 +103,6 @@ pub within : (z : ℤ) → lt_z z (negsuc 2147483647) ≡ false → lt_z (pos 21
 within (pos n) a b = record { sfits = omega (arith, ltb-false 2147483647 n b) }
 within (negsuc n) a b = record { sfits = omega (arith, ltb-false 2147483647 n a) }
 
--- what std's checked operations give: the exact result where it fits
-pub checked-if : (o : Option ℤ) (P : Type 0) (z : ℤ) → (P → SFits w32 z) → (SFits w32 z → P) → SomeIff o P z → outcome_of (ok_or o condition.Overflow) ≡ settle z
-unfolding settle
-checked-if (Some v) P z f g h = rw (h.1, lt-ltb (mag z) 2147483648 (f h.0).sfits)
-checked-if None P z f g h = go (ltb (mag z) 2147483648) refl
-  where
-    go : (t : Bool) → ltb (mag z) 2147483648 ≡ t → ends 20 ≡ settle z
-    go true e = absurd (h (g (record { sfits = ltb-true (mag z) 2147483648 e })))
-    go false e = rw e
-
-pub checked : (o : Option ℤ) (z : ℤ) → SomeIff o (SFits w32 z) z → outcome_of (ok_or o condition.Overflow) ≡ settle z
-checked o z h = checked-if o (SFits w32 z) z (λ f. f) (λ f. f) h
-
 -- ── one integer, by its bits ──
 pub same-integer : (x y : ℤ) → SFits w32 x → SFits w32 y → word_of x ≡ word_of y → x ≡ y
 same-integer x y h k e = sym (to_z-of_z w32 x h) ∙ ap integer_of e ∙ to_z-of_z w32 y k
@@ -128,8 +111,16 @@ same-integer x y h k e = sym (to_z-of_z w32 x h) ∙ ap integer_of e ∙ to_z-of
 pub negated : (z : ℤ) → pos 0 -ℤ z ≡ neg_ℤ z
 negated z = +ℤ_idl (neg_ℤ z)
 
+pub negation-fits : (x : ℤ) → SFits w32 x → (word_of x ≡ 2147483648 → ⊥) → SFits w32 (neg_ℤ x)
+negation-fits (pos zero) h f = h
+negation-fits (pos (suc n)) h f = record { sfits = omega arith }
+negation-fits (negsuc n) h f = record { sfits = omega arith }
+
+pub negation-over : (x : ℤ) → SFits w32 x → word_of x ≡ 2147483648 → settle (neg_ℤ x) ≡ ends 20
+negation-over x h e = rw (same-integer x (negsuc 2147483647) h (record { sfits = omega arith }) e) (overflows (pos 2147483648) (omega arith))
+
 -- ── division ──
--- a divisor by its bits: 0, not 0
+-- a divisor by its bits: 0, not 0, −1
 pub zero-divides : (y : ℤ) (o : Outcome ℤ) → SFits w32 y → word_of y ≡ 0 → unless_zero y o ≡ ends 21
 zero-divides y o k e = rw (same-integer y (pos 0) k (record { sfits = omega arith }) e)
 
@@ -140,7 +131,46 @@ not-zero (negsuc b) f = ne_eqb (suc b) 0 (λ e. omega arith)
 pub divided : (y : ℤ) (o : Outcome ℤ) → (word_of y ≡ 0 → ⊥) → unless_zero y o ≡ o
 divided y o f = rw (not-zero y f)
 
+minus_one : (y : ℤ) → SFits w32 y → word_of y ≡ 4294967295 → y ≡ negsuc 0
+minus_one y k e = same-integer y (negsuc 0) k (record { sfits = omega arith }) e
+
+by-minus-one : (x : ℤ) → (quot_z x (negsuc 0) ≡ neg_ℤ x) × (rem_z x (negsuc 0) ≡ pos 0)
+by-minus-one (pos a) = (rw (div-one a), rw (mod-one a))
+by-minus-one (negsuc a) = (rw (div-one (suc a)), rw (mod-one (suc a)))
+
+-- by another the quotient is no larger than the dividend
+quotient-mag : (x y : ℤ) → SFits w32 y → (word_of y ≡ 4294967295 → ⊥) → mag (quot_z x y) ≤ mag x
+quotient-mag (pos a) (pos b) k f = div-le_self a b
+quotient-mag (pos a) (negsuc b) k f = omega (arith, mag-size (neg_ℤ (pos (a / suc b))), size-neg (pos (a / suc b)), div-le_self a (suc b))
+quotient-mag (negsuc a) (pos b) k f = mag-negative (suc a / b) a (div-le_self (suc a) b)
+  where
+    mag-negative : (r a : ℕ) → r ≤ suc a → mag (neg_ℤ (pos r)) ≤ a
+    mag-negative zero a h = omega arith
+    mag-negative (suc r) a h = omega arith
+quotient-mag (negsuc a) (negsuc b) k f =
+    let g : 1 < suc b = omega arith in
+    omega (arith, div-lt_self {n = suc a} {k = suc b} (omega arith) g)
+
 module _ (x y : ℤ) (h : SFits w32 x) (k : SFits w32 y) (f : word_of y ≡ 0 → ⊥) where
+  pub quotient-minus-one : word_of y ≡ 4294967295 → quotient x y ≡ negation x
+  quotient-minus-one e = divided y (settle (quot_z x y)) f ∙ ap settle (rw (minus_one y k e) (by-minus-one x).0)
+
+  pub rest-minus-one : word_of y ≡ 4294967295 → rest x y ≡ gives (pos 0)
+  rest-minus-one e = divided y (settle (rem_z x y)) f ∙ ap settle (rw (minus_one y k e) (by-minus-one x).1) ∙ settled (pos 0) (omega arith)
+
+  module _ (g : word_of y ≡ 4294967295 → ⊥) where
+    quotient_fits : SFits w32 (quot_z x y)
+    quotient_fits = record { sfits = omega (arith, quotient-mag x y k g) }
+
+    -- what the machine asks of a division, and what it gives
+    pub divides : (0 < of_z w32 y) × SFits w32 (quot_z (to_z w32 (of_z w32 x)) (to_z w32 (of_z w32 y)))
+    divides = (omega arith, rw (to_z-of_z w32 x h, to_z-of_z w32 y k) quotient_fits)
+
+    pub quotient-exact : gives (to_z w32 (of_z w32 (quot_z (to_z w32 (of_z w32 x)) (to_z w32 (of_z w32 y))))) ≡ quotient x y
+    quotient-exact =
+        rw (to_z-of_z w32 x h, to_z-of_z w32 y k, to_z-of_z w32 _ quotient_fits)
+        (sym (divided y (settle (quot_z x y)) f ∙ settled (quot_z x y) quotient_fits.sfits))
+
   pub rest-exact : gives (to_z w32 (of_z w32 (rem_z (to_z w32 (of_z w32 x)) (to_z w32 (of_z w32 y))))) ≡ rest x y
   rest-exact =
       let r : SFits w32 (rem_z x y) = record { sfits = omega (arith, mag_rem x y) } in

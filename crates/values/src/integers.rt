@@ -1,4 +1,7 @@
-// Operators on integers of 32 bits: exact, or ended by a condition. + − × go by way of 64 bits, which hold every exact result.
+// Operators on integers of 32 bits: exact, or ended by a condition. + − × go by way of 64 bits, which hold every exact result;
+// the others meet a zero divisor and the one operand pair that leaves 32 bits first, and compute in 32 bits.
+// Kept (point 4): no `checked_div`, `checked_neg`, `wrapping_rem`, since paper 01 names the form (F8): "i32 division, remainder, negation and abs, with
+// −2147483648 by −1 and zero handled first".
 ghost use Rattle.std.specs.Prelude.{◌≡◌, not};
 ghost use Rattle.std.specs.Int.Signed.{lt_z, le_z};
 ghost use Rattle.values.specs.Arithmetic.{settle as exactly, sum, difference, product, quotient, rest, negation, magnitude};
@@ -41,13 +44,19 @@ pub fn multiply(x: i32, y: i32) -> Result<i32, Condition>
 pub fn negate(x: i32) -> Result<i32, Condition>
     ensures { outcome_of result ≡ negation x }
 {
-    x.checked_neg().ok_or(Condition::Overflow)
+    if x == -2147483648 {
+        return Err(Condition::Overflow);
+    }
+    Ok(-x)
 }
 
 pub fn absolute(x: i32) -> Result<i32, Condition>
     ensures { outcome_of result ≡ magnitude x }
 {
-    if x < 0 { negate(x) } else { Ok(x) }
+    if x < 0 {
+        return negate(x);
+    }
+    Ok(x)
 }
 
 pub fn divide(x: i32, y: i32) -> Result<i32, Condition>
@@ -56,7 +65,10 @@ pub fn divide(x: i32, y: i32) -> Result<i32, Condition>
     if y == 0 {
         return Err(Condition::ZeroDivisor);
     }
-    x.checked_div(y).ok_or(Condition::Overflow)
+    if y == -1 { // the only divisor by which a quotient can leave 32 bits
+        return negate(x);
+    }
+    Ok(x / y)
 }
 
 pub fn remainder(x: i32, y: i32) -> Result<i32, Condition>
@@ -65,7 +77,10 @@ pub fn remainder(x: i32, y: i32) -> Result<i32, Condition>
     if y == 0 {
         return Err(Condition::ZeroDivisor);
     }
-    Ok(x.wrapping_rem(y)) // that by −1 is 0, also where the quotient leaves 32 bits
+    if y == -1 { // the machine has no remainder where it has no quotient
+        return Ok(0);
+    }
+    Ok(x % y)
 }
 
 pub fn less(x: i32, y: i32) -> bool

@@ -9,8 +9,8 @@ returns-then-x-lt0 c =
     let f = c.ranges.x in
     rw (to_z-of_z w32 _ f, negative _ (rw (to_z-of_z w32 _ f) at c.if-x-lt0.true)) at c.negate.ensures
 
-pub returns-else-x-lt0 : goal.returns-else-x-lt0
-returns-else-x-lt0 c =
+pub returns : goal.returns
+returns c =
     let f = c.ranges.x in
     let e = positive c.args.x (rw (to_z-of_z w32 _ f) at c.if-x-lt0.false) in
     rw (to_z-of_z w32 _ f, ← e, settled _ f.sfits)
