@@ -2,10 +2,9 @@
 ghost use Rattle.std.specs.Prelude.{◌≡◌, true, false, cond, ℕ, ◌+◌, ◌*◌, ◌≤◌, ◌<◌, length, eqb};
 ghost use Rattle.words.specs.Numbers.{byte_at};
 ghost use Rattle.load_places.specs.Search.{tops};
-ghost use Rattle.load_places.specs.Records.{count, code_base, bad_head};
+ghost use Rattle.load_places.specs.Records.{count, bad_head};
 ghost use Rattle.load_places.specs.Rules.{body_of, found, into, broken};
 ghost use Rattle.load_places.specs.Index.{Indexed};
-ghost use Rattle.load_check.specs.Lookups.{Bodied, Classed};
 ghost use Rattle.load_check.specs.Loaded.{loaded_of};
 ghost use Rattle.load_check.specs.Walk.{flow_of, Fit, Stands};
 ghost use Rattle.state_sound.specs.Each.{each};
@@ -15,7 +14,7 @@ ghost use Rattle.state_check.specs.Inspecting.{records_in, sized_fits, Inspects,
 ghost use Rattle.bytecode.specs.Rules.{judge_macro};
 ghost use Rattle.bytecode.specs.State.{state_length};
 
-use crate::tests::{plain_fits, row_fits};
+use crate::tests::{Numbered, plain_fits, row_fits};
 use formats::compiled::*;
 use formats::limits::*;
 use formats::state::*;
@@ -40,24 +39,23 @@ fn same_row(code: &[u8], place: usize, row: &[u8], from: usize, count: usize) ->
 
 // Whether the types found are the operands of activation k and above them the arguments that its call took.
 fn args_fit(
-    code: &[u8],
-    bodies: &[u32],
-    state: &[u8],
-    activations: usize,
+    at: &Located,
+    of: &Numbered,
     k: usize,
     stack: &[u8],
     operands: usize,
     depth: usize,
 ) -> bool
-    requires { (Bodied code.now bodies.now) × (Counted code.now state.now activations) × (k < activations) × (length stack.now ≡ 32) × (depth ≤ 32) × (operands < 256) }
-    ensures { result ≡ args_fit code.now state.now activations k stack.now operands depth }
+    requires { (Stands at.now) × (Counted at.now.code.now of.now.state.now of.now.activations) × (k < of.now.activations) × (length stack.now ≡ 32) × (depth ≤ 32) × (operands < 256) }
+    ensures { result ≡ args_fit at.now.code.now of.now.state.now of.now.activations k stack.now operands depth }
 {
+    let code = at.code;
     let j = k + 1;
-    if activations <= j {
+    if of.activations <= j {
         return operands == depth;
     }
-    let b = words::wide::byte_at(state, ACTIVATIONS_AT + ACTIVATION_BYTES * j);
-    let q = load_check::body_at(code, bodies, b);
+    let b = words::wide::byte_at(of.state, ACTIVATIONS_AT + ACTIVATION_BYTES * j);
+    let q = load_check::body_at(code, at.bodies, b);
     let t = words::wide::byte_at(code, q + PARAMETER_COUNT_AT);
     if operands + t != depth {
         return false;
@@ -67,20 +65,18 @@ fn args_fit(
 
 // Whether activation k fits the state found where it stands: in a body, with as many open holds and operands of the types in `stack`.
 fn stands_at(
-    code: &[u8],
-    bodies: &[u32],
-    state: &[u8],
-    records: usize,
-    activations: usize,
+    at: &Located,
+    of: &Numbered,
     k: usize,
     body: usize,
     stack: &[u8],
     holds: usize,
     depth: usize,
 ) -> bool
-    requires { (Bodied code.now bodies.now) × (Counted code.now state.now activations) × (records ≤ 256) × (k < activations) × (length stack.now ≡ 32) × (depth ≤ 32) }
-    ensures { result ≡ stands_in code.now state.now records activations k body holds (tops stack.now 0 depth) }
+    requires { (Stands at.now) × (Counted at.now.code.now of.now.state.now of.now.activations) × (of.now.records ≤ 256) × (k < of.now.activations) × (length stack.now ≡ 32) × (depth ≤ 32) }
+    ensures { result ≡ stands_in at.now.code.now of.now.state.now of.now.records of.now.activations k body holds (tops stack.now 0 depth) }
 {
+    let state = of.state;
     let p = ACTIVATIONS_AT + ACTIVATION_BYTES * k;
     let o = words::wide::byte_at(state, p);
     if o != body {
@@ -91,13 +87,12 @@ fn stands_at(
         return false;
     }
     let a = words::wide::byte_at(state, p + OPERAND_COUNT_AT);
-    if !args_fit(code, bodies, state, activations, k, stack, a, depth) {
+    if !args_fit(at, of, k, stack, a, depth) {
         return false;
     }
     row_fits(
-        code,
-        state,
-        records,
+        at.code,
+        of,
         stack,
         0,
         p + OPERAND_TYPES_AT,
@@ -108,11 +103,8 @@ fn stands_at(
 
 // The same, if it stands at the address.
 fn stands_if(
-    code: &[u8],
-    bodies: &[u32],
-    state: &[u8],
-    records: usize,
-    activations: usize,
+    at: &Located,
+    of: &Numbered,
     k: usize,
     address: usize,
     body: usize,
@@ -120,60 +112,34 @@ fn stands_if(
     holds: usize,
     depth: usize,
 ) -> bool
-    requires { (Bodied code.now bodies.now) × (Counted code.now state.now activations) × (records ≤ 256) × (k < activations) × (length stack.now ≡ 32) × (depth ≤ 32) }
-    ensures { result ≡ cond (eqb (address_in state.now k) address) (stands_in code.now state.now records activations k body holds
+    requires { (Stands at.now) × (Counted at.now.code.now of.now.state.now of.now.activations) × (of.now.records ≤ 256) × (k < of.now.activations) × (length stack.now ≡ 32) × (depth ≤ 32) }
+    ensures { result ≡ cond (eqb (address_in of.now.state.now k) address) (stands_in at.now.code.now of.now.state.now of.now.records of.now.activations k body holds
         (tops stack.now 0 depth)) true }
 {
-    let a = words::wide::half_at(state, ACTIVATIONS_AT + ACTIVATION_BYTES * k + ADDRESS_AT);
+    let a = words::wide::half_at(of.state, ACTIVATIONS_AT + ACTIVATION_BYTES * k + ADDRESS_AT);
     if a != address {
         return true;
     }
-    stands_at(
-        code,
-        bodies,
-        state,
-        records,
-        activations,
-        k,
-        body,
-        stack,
-        holds,
-        depth,
-    )
+    stands_at(at, of, k, body, stack, holds, depth)
 }
 
 // All activations that stand at the address.
 fn all_stand(
-    code: &[u8],
-    bodies: &[u32],
-    state: &[u8],
-    records: usize,
-    activations: usize,
+    at: &Located,
+    of: &Numbered,
     address: usize,
     body: usize,
     stack: &[u8],
     holds: usize,
     depth: usize,
 ) -> bool
-    requires { (Bodied code.now bodies.now) × (AnyCounted code.now state.now activations) × (records ≤ 256) × (length stack.now ≡ 32) × (depth ≤ 32) }
-    ensures { result ≡ each (λ k. cond (eqb (address_in state.now k) address) (stands_in code.now state.now records activations k body holds
-        (tops stack.now 0 depth)) true) 0 activations }
+    requires { (Stands at.now) × (AnyCounted at.now.code.now of.now.state.now of.now.activations) × (of.now.records ≤ 256) × (length stack.now ≡ 32) × (depth ≤ 32) }
+    ensures { result ≡ each (λ k. cond (eqb (address_in of.now.state.now k) address) (stands_in at.now.code.now of.now.state.now of.now.records of.now.activations k body holds
+        (tops stack.now 0 depth)) true) 0 of.now.activations }
 {
     let mut ok = true;
-    for k in 0..activations {
-        let f = stands_if(
-            code,
-            bodies,
-            state,
-            records,
-            activations,
-            k,
-            address,
-            body,
-            stack,
-            holds,
-            depth,
-        );
+    for k in 0..of.activations {
+        let f = stands_if(at, of, k, address, body, stack, holds, depth);
         ok &= f;
     }
     ok
@@ -181,32 +147,18 @@ fn all_stand(
 
 // Where no state is found the address has a fault, and the answer does not count.
 fn found_fits(
-    code: &[u8],
-    bodies: &[u32],
-    state: &[u8],
-    records: usize,
-    activations: usize,
+    at: &Located,
+    of: &Numbered,
     address: usize,
     body: usize,
     stack: &[u8],
     flow: Moved,
 ) -> bool
-    requires { (Bodied code.now bodies.now) × (AnyCounted code.now state.now activations) × (records ≤ 256) × (length stack.now ≡ 32) × (Fit flow) }
-    ensures { result ≡ standing code.now state.now records activations address body (flow_of flow stack.now) }
+    requires { (Stands at.now) × (AnyCounted at.now.code.now of.now.state.now of.now.activations) × (of.now.records ≤ 256) × (length stack.now ≡ 32) × (Fit flow) }
+    ensures { result ≡ standing at.now.code.now of.now.state.now of.now.records of.now.activations address body (flow_of flow stack.now) }
 {
     match flow {
-        Moved::Goes(h, d) => all_stand(
-            code,
-            bodies,
-            state,
-            records,
-            activations,
-            address,
-            body,
-            stack,
-            h,
-            d,
-        ),
+        Moved::Goes(h, d) => all_stand(at, of, address, body, stack, h, d),
         Moved::Ends => true,
         Moved::Bad => true,
     }
@@ -226,13 +178,13 @@ fn nearer(best: usize, a: usize, address: usize) -> usize
 }
 
 // No activation stands from the given address on before this one.
-fn next_wanted(state: &[u8], activations: usize, address: usize) -> usize
-    requires { AnySized state.now activations }
-    ensures { (k : ℕ) → k < activations → address ≤ address_in state.now k → result ≤ address_in state.now k }
+fn next_wanted(of: &Numbered, address: usize) -> usize
+    requires { AnySized of.now.state.now of.now.activations }
+    ensures { (k : ℕ) → k < of.now.activations → address ≤ address_in of.now.state.now k → result ≤ address_in of.now.state.now k }
 {
     let mut best: usize = 65536;
-    for k in 0..activations {
-        let a = words::wide::half_at(state, ACTIVATIONS_AT + ACTIVATION_BYTES * k + ADDRESS_AT);
+    for k in 0..of.activations {
+        let a = words::wide::half_at(of.state, ACTIVATIONS_AT + ACTIVATION_BYTES * k + ADDRESS_AT);
         best = nearer(best, a, address);
     }
     best
@@ -247,11 +199,8 @@ struct Wanted {
 
 // An address with the state found there. Most addresses are not wanted, and cost one comparison.
 fn look(
-    code: &[u8],
-    bodies: &[u32],
-    state: &[u8],
-    records: usize,
-    activations: usize,
+    at: &Located,
+    of: &Numbered,
     address: usize,
     body: usize,
     stack: &[u8],
@@ -259,26 +208,16 @@ fn look(
     ok: bool,
     next: usize,
 ) -> Wanted
-    requires { (Bodied code.now bodies.now) × (AnyCounted code.now state.now activations) × (records ≤ 256) × (length stack.now ≡ 32) × (Fit flow) × (address < 65536)
-        × (body ≡ body_of code.now address) × (flow_of flow stack.now ≡ found code.now address (into code.now address))
-        × (Upto code.now state.now records activations address ok next) }
-    ensures { broken code.now address ≡ false → Upto code.now state.now records activations (address + 1) result.ok result.next }
+    requires { (Stands at.now) × (AnyCounted at.now.code.now of.now.state.now of.now.activations) × (of.now.records ≤ 256) × (length stack.now ≡ 32) × (Fit flow) × (address < 65536)
+        × (body ≡ body_of at.now.code.now address) × (flow_of flow stack.now ≡ found at.now.code.now address (into at.now.code.now address))
+        × (Upto at.now.code.now of.now.state.now of.now.records of.now.activations address ok next) }
+    ensures { broken at.now.code.now address ≡ false → Upto at.now.code.now of.now.state.now of.now.records of.now.activations (address + 1) result.ok result.next }
 {
     if address < next {
         return Wanted { ok, next };
     }
-    let f = found_fits(
-        code,
-        bodies,
-        state,
-        records,
-        activations,
-        address,
-        body,
-        stack,
-        flow,
-    );
-    let j = next_wanted(state, activations, address + 1);
+    let f = found_fits(at, of, address, body, stack, flow);
+    let j = next_wanted(of, address + 1);
     Wanted {
         ok: ok & f,
         next: j,
@@ -286,15 +225,9 @@ fn look(
 }
 
 // Whether the activations fit where they stand; or the first address with a fault.
-fn walk_tests(
-    at: &Located,
-    stack: &mut [u8],
-    state: &[u8],
-    records: usize,
-    activations: usize,
-) -> Result<bool, usize>
-    requires { (Stands at.now) × (length stack.old ≡ 32) × (AnyCounted at.now.code.now state.now activations) × (records ≤ 256) }
-    ensures { Tests at.now.code.now state.now records activations result }
+fn walk_tests(at: &Located, of: &Numbered, stack: &mut [u8]) -> Result<bool, usize>
+    requires { (Stands at.now) × (length stack.old ≡ 32) × (AnyCounted at.now.code.now of.now.state.now of.now.activations) × (of.now.records ≤ 256) }
+    ensures { Tests at.now.code.now of.now.state.now of.now.records of.now.activations result }
 {
     let code = at.code;
     let bodies = at.bodies;
@@ -303,23 +236,11 @@ fn walk_tests(
     let mut shape = load_check::first_shape(code, at.base, stop);
     let mut flow = Moved::Ends;
     let mut ok = true;
-    let mut next = next_wanted(state, activations, 0);
+    let mut next = next_wanted(of, 0);
     for address in 0..stop {
         let g = load_check::found_at(code, bodies, here, shape, address, stack, flow);
         let after = load_check::shape_after(code, shape, address);
-        let w = look(
-            code,
-            bodies,
-            state,
-            records,
-            activations,
-            address,
-            here.body,
-            stack,
-            g,
-            ok,
-            next,
-        );
+        let w = look(at, of, address, here.body, stack, g, ok, next);
         let e = load_check::go_on(at, here, after, address, stack, g);
         if load_check::is_bad(e) {
             return Err(address);
@@ -366,14 +287,14 @@ fn count_wanted(state: &[u8], plain: bool) -> Counts
 }
 
 // A state of another length is not sound, and not looked at: the macro is judged beside it all the same.
-fn sized_fits(code: &[u8], bodies: &[u32], classes: &[u32], base: usize, state: &[u8]) -> bool
-    requires { (Bodied code.now bodies.now) × (Classed code.now classes.now) × (base ≡ code_base code.now) }
-    ensures { result ≡ sized_fits code.now state.now }
+fn sized_fits(at: &Located, state: &[u8]) -> bool
+    requires { Stands at.now }
+    ensures { result ≡ sized_fits at.now.code.now state.now }
 {
     if state.len() != STATE_BYTES {
         return false;
     }
-    plain_fits(code, bodies, classes, base, state)
+    plain_fits(at, state)
 }
 
 fn inspect_in(
@@ -398,8 +319,6 @@ fn inspect_in(
             });
         }
     };
-    let plain = sized_fits(code, bodies, classes, base, state);
-    let counts = count_wanted(state, plain);
     let located = Located {
         code,
         shapes,
@@ -407,13 +326,14 @@ fn inspect_in(
         classes,
         base,
     };
-    match walk_tests(
-        &located,
-        &mut stack,
+    let plain = sized_fits(&located, state);
+    let counts = count_wanted(state, plain);
+    let numbered = Numbered {
         state,
-        counts.records,
-        counts.activations,
-    ) {
+        records: counts.records,
+        activations: counts.activations,
+    };
+    match walk_tests(&located, &numbered, &mut stack) {
         Err(at) => Err(Refusal {
             number: 9,
             place: at as u32,

@@ -23,10 +23,10 @@ stands_if-f-requires c = (
 pub loop-k-preserved : goal.loop-k-preserved
 loop-k-preserved c =
     rw c.stands_if-f.ensures
-    (each_more (law.stand_at c.args.code.now
-    c.args.state.now
-    c.args.records
-    c.args.activations
+    (each_more (law.stand_at c.args.at.now.code.now
+    c.args.of.now.state.now
+    c.args.of.now.records
+    c.args.of.now.activations
     c.args.address
     c.args.body
     c.args.holds

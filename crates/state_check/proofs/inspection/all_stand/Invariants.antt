@@ -6,4 +6,4 @@ use Rattle.state_check.proofs.inspection.all_stand.Given as goal
 
 abbrev pub invariant-loop-k : goal.invariant-loop-k
 invariant-loop-k l =
-    l.ok ≡ each (law.stand_at l.code l.state l.records l.activations l.address l.body l.holds (tops l.stack 0 l.depth)) 0 l.k
+    l.ok ≡ each (law.stand_at l.at.code.now l.of.state.now l.of.records l.of.activations l.address l.body l.holds (tops l.stack 0 l.depth)) 0 l.k

@@ -14,7 +14,7 @@ sized_fits-plain-requires c =
     let R = ready _ _ _ _ scan.result _ c.in-Ok.is scan.ensures.1 in
     let able = rule.able-ready _ _ _ _ _ R (omega (arith, scan.auto.shapes, pre.1, pre.2)) (omega (arith, scan.auto.bodies, pre.3))
     (omega (arith, scan.auto.classes, pre.4)) in
-    (able.bodied, able.classed, R.based)
+    (able, R.based)
 
 pub count_wanted-counts-requires : goal.count_wanted-counts-requires
 count_wanted-counts-requires c = telling.long c.args.code.now c.args.state.now _ c.sized_fits-plain.ensures

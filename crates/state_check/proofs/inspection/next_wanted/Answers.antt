@@ -8,7 +8,7 @@ loop-k-init c = λ j p. absurd (omega arith)
 
 pub loop-k-preserved : goal.loop-k-preserved
 loop-k-preserved c =
-    law.nearer-more c.args.state.now c.args.address
+    law.nearer-more c.args.of.now.state.now c.args.address
     c.loop-k.k c.loop-k.best c.nearer-best.result c.half_at-a.result
     c.loop-k.invariant c.nearer-best.ensures.0 c.nearer-best.ensures.1 c.half_at-a.ensures.0
 

@@ -19,7 +19,7 @@ pub returns-then-not-args_fit : goal.returns-then-not-args_fit
 returns-then-not-args_fit c =
     law.stands-3 _ _ _ _ _ _ _ _ _ (sym c.byte_at-o.ensures.0 ∙ c.if-o-body.false)
     (sym c.byte_at-g.ensures.0 ∙ c.if-g-holds.false)
-    (sym (ap (λ (x : ℕ). args_fit c.args.code.now c.args.state.now c.args.activations c.args.k
+    (sym (ap (λ (x : ℕ). args_fit c.args.at.now.code.now c.args.of.now.state.now c.args.of.now.activations c.args.k
     c.args.stack.now x c.args.depth) c.byte_at-a.ensures.0) ∙ sym c.args_fit.ensures
     ∙ c.if-not-args_fit.true)
 
@@ -30,7 +30,7 @@ row_fits-requires c =
     _ c.byte_at-a.result
     c.args.depth
     (sym c.args_fit.ensures ∙ c.if-not-args_fit.false) in (
-      (head_of _ c.requires.0.well).bytes,
+      (head_of _ c.requires.0.0.bodied.well).bytes,
       c.requires.1.long,
       c.requires.2,
       omega arith,
@@ -42,6 +42,6 @@ pub returns : goal.returns
 returns c =
     c.row_fits.ensures ∙ rw c.byte_at-a.ensures.0 (law.stands-4 _ _ _ _ _ _ _ _ _
     (sym c.byte_at-o.ensures.0 ∙ c.if-o-body.false) (sym c.byte_at-g.ensures.0 ∙ c.if-g-holds.false)
-    (sym (ap (λ (x : ℕ). args_fit c.args.code.now c.args.state.now c.args.activations c.args.k
+    (sym (ap (λ (x : ℕ). args_fit c.args.at.now.code.now c.args.of.now.state.now c.args.of.now.activations c.args.k
     c.args.stack.now x c.args.depth) c.byte_at-a.ensures.0) ∙ sym c.args_fit.ensures
     ∙ c.if-not-args_fit.false))

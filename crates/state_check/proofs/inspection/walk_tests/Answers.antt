@@ -46,7 +46,7 @@ shape_after-after-requires c =
 
 pub look-w-requires : goal.look-w-requires
 look-w-requires c = (
-  c.requires.0.0.bodied,
+  c.requires.0,
   c.requires.2,
   c.requires.3,
   c.found_at-g.auto.stack ∙ c.loop-address.invariant.1,

@@ -9,4 +9,4 @@ use Rattle.state_check.proofs.inspection.walk_tests.Given as goal
 abbrev pub invariant-loop-address : goal.invariant-loop-address
 invariant-loop-address l =
     InBody l.code l.address l.here × (length l.stack ≡ 32) × Moves l.stack l.flow (into l.code l.address)
-    × Clean (broken l.code) l.address × Upto l.code l.state l.records l.activations l.address l.ok l.next × Next l.code l.address l.shape
+    × Clean (broken l.code) l.address × Upto l.code l.of.state.now l.of.records l.of.activations l.address l.ok l.next × Next l.code l.address l.shape

@@ -15,16 +15,15 @@ frame_fits-f-requires c = (
   c.requires.1,
   c.requires.2,
   c.requires.3,
-  c.requires.4,
   omega arith,
 )
 
 pub loop-k-preserved : goal.loop-k-preserved
 loop-k-preserved c =
     rw c.frame_fits-f.ensures
-    (each_more (frame_fits c.args.code.now
-    c.args.state.now c.args.records
-    c.args.activations) c.loop-k.k _ c.loop-k.invariant)
+    (each_more (frame_fits c.args.at.now.code.now
+    c.args.of.now.state.now c.args.of.now.records
+    c.args.of.now.activations) c.loop-k.k _ c.loop-k.invariant)
 
 pub returns : goal.returns
 returns c = law.each-end _ _ _ _ c.loop-k.auto.k-end (omega arith) c.loop-k.invariant

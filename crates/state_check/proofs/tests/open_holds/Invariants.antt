@@ -4,4 +4,4 @@ use Rattle.state_sound.specs.Fits.{held}
 use Rattle.state_check.proofs.tests.open_holds.Given as goal
 
 abbrev pub invariant-loop-k : goal.invariant-loop-k
-invariant-loop-k l = (l.sum ≡ held l.state l.k) × (l.sum ≤ 255 * l.k)
+invariant-loop-k l = (l.sum ≡ held l.of.state.now l.k) × (l.sum ≤ 255 * l.k)

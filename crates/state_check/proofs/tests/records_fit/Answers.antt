@@ -16,8 +16,8 @@ record_fits-f-requires c =
 pub loop-k-preserved : goal.loop-k-preserved
 loop-k-preserved c =
     rw c.record_fits-f.ensures
-    (each_more (record_fits c.args.code.now
-    c.args.state.now c.args.records)
+    (each_more (record_fits c.args.at.now.code.now
+    c.args.of.now.state.now c.args.of.now.records)
     c.loop-k.k _ c.loop-k.invariant)
 
 pub returns : goal.returns

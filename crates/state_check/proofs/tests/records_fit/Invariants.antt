@@ -4,4 +4,4 @@ use Rattle.state_sound.specs.Fits.{record_fits}
 use Rattle.state_check.proofs.tests.records_fit.Given as goal
 
 abbrev pub invariant-loop-k : goal.invariant-loop-k
-invariant-loop-k l = l.ok ≡ each (record_fits l.code l.state l.records) 0 l.k
+invariant-loop-k l = l.ok ≡ each (record_fits l.at.code.now l.of.state.now l.of.records) 0 l.k

@@ -21,8 +21,8 @@ loop-j-preserved c =
       c.byte_at-a.ensures.0,
     ) (each_more
     (law.fits_at c.args.code.now
-    c.args.state.now
-    c.args.records
+    c.args.of.now.state.now
+    c.args.of.now.records
     c.args.row.now
     c.args.place
     c.args.t
