@@ -3,8 +3,7 @@ use Rattle.machine_frames.proofs.Clearing.{none-cleared, one-cleared}
 use Prim.Native.Nat.{ℕ, ◌+◌}
 use mathlib.Core.List.{List}
 use lib.ListN.{set, length-set}
-use mathlib.Core.Path.{◌≡◌, refl, ◌∙◌, ap}
-use native.Mathlib.Omega.{arith}
+use mathlib.Core.Path.{refl, ◌∙◌, ap}
 use Rattle.machine_frames.proofs.phases.clear.Goals as goal
 
 pub loop-k-init : goal.loop-k-init
@@ -16,9 +15,3 @@ loop-k-preserved c = (
   ap (λ (l : List ℕ). set l (c.args.place + c.loop-k.k) 0)
       c.loop-k.invariant.1 ∙ one-cleared _ _ _,
 )
-
-pub shape_of-state : goal.shape_of-state
-shape_of-state c = c.loop-k.invariant.0
-
-pub returns : goal.returns
-returns c = let e : c.loop-k.k ≡ c.args.count = omega arith in rw (← e) c.loop-k.invariant.1
