@@ -1,16 +1,12 @@
 -- `compile_output::releases` meets its contract. The invariant: what is left to release, from the cursor and the output as they are, comes to what all comes to.
 -- Assumes nothing.
 use native.Mathlib.Omega.{arith}
-use native.Mathlib.Nat.{sub-zero}
-use mathlib.Core.Path.{◌≡◌, refl, sym, ap, ◌∙◌}
+use mathlib.Core.Path.{◌≡◌, sym, ap, ◌∙◌}
 use Prim.Native.Nat.{ℕ, ◌+◌, ◌-◌}
 use lib.ListN.{length}
 use Rattle.compile_output.specs.EmitRecord.{length-emit}
 use Rattle.compile_output.specs.EmitCode.{lets-cursor, lets-emitted, lets-none, lets-fits}
 use Rattle.compile_output.proofs.releases.Goals as goal
-
-pub loop-i-init : goal.loop-i-init
-loop-i-init c = rw (sub-zero c.args.count) (refl, refl, c.requires, refl)
 
 pub emit-p-requires : goal.emit-p-requires
 emit-p-requires c = lets-fits (c.args.count - c.loop-i.i) c.loop-i.p (length c.loop-i.out) (omega arith) c.loop-i.invariant.2
@@ -29,9 +25,6 @@ loop-i-preserved c =
       rw (fewer, wrote.ensures.0, s, ← lets-cursor n p (omega arith)) turn.invariant.2,
       s ∙ turn.invariant.3,
     )
-
-pub shape_of-out : goal.shape_of-out
-shape_of-out c = c.loop-i.invariant.3
 
 pub returns : goal.returns
 returns c =

@@ -27,9 +27,6 @@ loop-row-preserved c =
       ap (length {A = ℕ}) e.1 ∙ (length-row a.holds a.depth ts a.cell a.start a.exit (get_or t i Mark) w.p w.out ∙ w.invariant.2),
     )
 
-pub shape_of-out : goal.shape_of-out
-shape_of-out c = c.loop-row.invariant.2
-
 pub returns : goal.returns
 returns c =
     let w = c.loop-row in let a = c.args in
