@@ -3,9 +3,6 @@ use Rattle.machine_ops.proofs.CallRecordOps.{call_enters, call-full}
 use native.Mathlib.Omega.{arith}
 use Rattle.machine_ops.proofs.calls.op_call.Goals as goal
 
-pub enter_body-requires : goal.enter_body-requires
-enter_body-requires c = c.requires.4 (omega arith)
-
 pub returns-then-state-lt-FULL : goal.returns-then-state-lt-FULL
 returns-then-state-lt-FULL c =
     call_enters c.args.code.now c.args.place c.args.body c.requires.1 c.requires.2 _

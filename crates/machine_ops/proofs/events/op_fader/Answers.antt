@@ -13,10 +13,6 @@ pub returns-then-x-gt-LAST_FADER : goal.returns-then-x-gt-LAST_FADER
 returns-then-x-gt-LAST_FADER c =
     fader-high (omega arith) (omega arith) _ c.operand_word-x.ensures c.args.readings.now _ _ (omega arith) c.op_condition-then-x-gt-LAST_FADER.ensures
 
-pub overflow_cast-v-2 : goal.overflow_cast-v-2
-overflow_cast-v-2 c =
-    omega (arith, c.shared_slice_known-2-1.given (c.operand_word-x.result - 1))
-
 pub returns : goal.returns
 returns c =
     fader-tells (omega arith) (omega arith) _ c.operand_word-x.ensures c.args.readings.now _ _ _ (omega arith)

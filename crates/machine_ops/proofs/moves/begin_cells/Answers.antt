@@ -14,8 +14,5 @@ loop-j-preserved c = (
       c.loop-j.invariant.1 c.put_cell.ensures,
 )
 
-pub shape_of-state : goal.shape_of-state
-shape_of-state c = c.loop-j.invariant.0
-
 pub returns : goal.returns
 returns c = begin-end c.args.code.now _ _ _ _ _ _ _ (omega arith) c.loop-j.invariant.1

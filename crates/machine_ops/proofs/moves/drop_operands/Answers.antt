@@ -4,17 +4,11 @@ use mathlib.Core.Path.{refl, ◌∙◌}
 use Rattle.machine_ops.proofs.MoveLoops.{drop-begin, drop-next, drop-end}
 use Rattle.machine_ops.proofs.moves.drop_operands.Goals as goal
 
-pub loop-k-init : goal.loop-k-init
-loop-k-init c = (refl, drop-begin _ _ _ _ (omega arith))
-
 pub loop-k-preserved : goal.loop-k-preserved
 loop-k-preserved c = (
   c.pop.auto.state ∙ c.loop-k.invariant.0,
   drop-next _ _ _ _ _ _ _ (omega arith) c.loop-k.invariant.1 c.pop.ensures,
 )
-
-pub shape_of-state : goal.shape_of-state
-shape_of-state c = c.loop-k.invariant.0
 
 pub returns : goal.returns
 returns c = drop-end _ _ _ _ _ _ (omega arith) c.loop-k.invariant.1

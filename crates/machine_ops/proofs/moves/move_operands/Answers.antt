@@ -15,8 +15,5 @@ loop-j-preserved c = (
       c.put_value.ensures,
 )
 
-pub shape_of-state : goal.shape_of-state
-shape_of-state c = c.loop-j.invariant.0
-
 pub returns : goal.returns
 returns c = let e : c.loop-j.j ≡ c.args.count = omega arith in rw (← e) c.loop-j.invariant.1

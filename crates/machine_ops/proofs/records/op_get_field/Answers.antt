@@ -8,18 +8,6 @@ pub returns-then-r-eq0 : goal.returns-then-r-eq0
 returns-then-r-eq0 c =
     get-null c.args.c c.args.b (omega arith) (omega arith) _ c.operand_word-r.ensures _ _ c.if-r-eq0.true c.op_condition.ensures
 
-pub field_word-w-requires : goal.field_word-w-requires
-field_word-w-requires c =
-    let z = c.if-r-eq0.false in let R = c.requires.2
-    (λ e. z (c.operand_word-r.ensures ∙ e)) in let e = c.operand_word-r.ensures in
-    record { long = omega arith; place = omega (arith, R.made); slot = R.field }
-
-pub field_type-t-requires : goal.field_type-t-requires
-field_type-t-requires c =
-    let z = c.if-r-eq0.false in let R = c.requires.2
-    (λ e. z (c.operand_word-r.ensures ∙ e)) in let e = c.operand_word-r.ensures in
-    record { long = omega arith; place = omega (arith, R.made); slot = R.field }
-
 pub returns : goal.returns
 returns c =
     let z = c.if-r-eq0.false in

@@ -8,13 +8,6 @@ pub returns-then-r-eq0 : goal.returns-then-r-eq0
 returns-then-r-eq0 c =
     put-null c.args.c c.args.b (omega arith) (omega arith) _ c.operand_word-r.ensures _ _ c.if-r-eq0.true c.op_condition.ensures
 
-pub put_field-requires : goal.put_field-requires
-put_field-requires c =
-    let z = c.if-r-eq0.false in let R =
-    c.requires.2
-    (λ e. z (c.operand_word-r.ensures ∙ e)) in
-    let e = c.operand_word-r.ensures in record { long = omega arith; place = omega (arith, R.made); slot = R.field }
-
 pub returns : goal.returns
 returns c =
     let z = c.if-r-eq0.false in
