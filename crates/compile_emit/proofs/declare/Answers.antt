@@ -65,12 +65,6 @@ loop-i-preserved c =
       ap (length {A = ℕ}) t ∙ (length-set {A = ℕ} w.ends (a.at + w.i) (cursor_declared (half_at (drop (8 * w.i) a.part.now) 0) w.p).address ∙ w.invariant.5),
     )
 
-pub shape_of-ends : goal.shape_of-ends
-shape_of-ends c = c.loop-i.invariant.5
-
-pub shape_of-out : goal.shape_of-out
-shape_of-out c = c.loop-i.invariant.4
-
 pub returns : goal.returns
 returns c = let a = c.args in let w = c.loop-i in let z : a.count - w.i ≡ 0 = omega arith in
     let k = heads-none (drop (8 * w.i) a.part.now) a.known.now w.ends w.out (a.at + w.i) (a.count - w.i) w.p z in

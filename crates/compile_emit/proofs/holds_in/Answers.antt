@@ -13,9 +13,6 @@ use Rattle.compile_emit.proofs.holds_in.Goals as goal
 pub loop-i-init : goal.loop-i-init
 loop-i-init c = let a = c.args in (rw (sub-zero a.count) (omega arith), omega arith)
 
-pub overflow_add-n : goal.overflow_add-n
-overflow_add-n c = omega (arith, c.holds_by-n.ensures, holds-one c.kind_at.result, c.loop-i.invariant.1)
-
 pub loop-i-preserved : goal.loop-i-preserved
 loop-i-preserved c =
     let a = c.args in let w = c.loop-i in

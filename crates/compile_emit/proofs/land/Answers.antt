@@ -8,10 +8,6 @@ use Rattle.compile_emit.proofs.land.Goals as goal
 pub loop-i-init : goal.loop-i-init
 loop-i-init c = (omega arith, refl, omega arith)
 
-pub overflow_cast-env : goal.overflow_cast-env
-overflow_cast-env c =
-    omega (arith, c.shared_slice_known-then-m-name-1.given (4 * (c.loop-i.i - 1) + 3))
-
 pub returns-then-m-name : goal.returns-then-m-name
 returns-then-m-name c =
     let w = c.loop-i in
@@ -19,10 +15,6 @@ returns-then-m-name c =
       sym (w.invariant.0 ∙ rw (passed-hit a.env.now a.name w.i (omega arith) c.if-m-name.true) (omega arith)),
       c.end_of.ensures.0 ∙ sym (w.invariant.1 ∙ meant-hit a.env.now a.aims.now a.name w.i (omega arith) c.if-m-name.true),
     )
-
-pub overflow_add-n : goal.overflow_add-n
-overflow_add-n c =
-    omega (arith, c.requires, c.loop-i.invariant.2)
 
 pub loop-i-preserved-then-m-eq65539 : goal.loop-i-preserved-then-m-eq65539
 loop-i-preserved-then-m-eq65539 c =

@@ -7,9 +7,6 @@ use Rattle.compile_emit.proofs.mark_holds.Goals as goal
 pub loop-i-init : goal.loop-i-init
 loop-i-init c = marks-start c.args.env.now c.args.top
 
-pub push-requires : goal.push-requires
-push-requires c = omega (arith, c.loop-i.invariant.same)
-
 pub loop-i-preserved : goal.loop-i-preserved
 loop-i-preserved c =
     marks-push c.args.env.now
@@ -17,9 +14,6 @@ loop-i-preserved c =
     c.args.top c.loop-i.i
     (omega (arith, c.loop-i.invariant.same)) c.loop-i.invariant
     c.push.ensures
-
-pub shape_of-env : goal.shape_of-env
-shape_of-env c = c.loop-i.invariant.same
 
 pub returns : goal.returns
 returns c = let e : c.loop-i.i ≡ c.args.count = omega arith in rw (← e) c.loop-i.invariant
