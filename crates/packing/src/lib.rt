@@ -42,6 +42,5 @@ pub fn put_answer(out: &mut [u8], at: usize, answer: u64)
     requires { at + 8 ≤ length out.old }
     ensures { out.new ≡ sets out.old at (long answer) }
 {
-    words::put_word(out, at, (answer % 4294967296) as u32);
-    words::put_word(out, at + 4, (answer / 4294967296) as u32);
+    out[at..at + ANSWER_BYTES].copy_from_slice(&answer.to_le_bytes());
 }
