@@ -1,6 +1,5 @@
 -- `machine_ops::events::op_fader` meets its contract.
 use mathlib.Core.Path.{refl}
-use Prim.Native.Nat.{◌-◌}
 use native.Mathlib.Omega.{arith}
 use Rattle.machine_ops.proofs.JumpEventOps.{fader-low, fader-high, fader-tells}
 use Rattle.machine_ops.proofs.events.op_fader.Goals as goal

@@ -1,7 +1,7 @@
 -- `machine_ops::moves::drop_operands` meets its contract.
 use native.Mathlib.Omega.{arith}
-use mathlib.Core.Path.{refl, ◌∙◌}
-use Rattle.machine_ops.proofs.MoveLoops.{drop-begin, drop-next, drop-end}
+use mathlib.Core.Path.{◌∙◌}
+use Rattle.machine_ops.proofs.MoveLoops.{drop-next, drop-end}
 use Rattle.machine_ops.proofs.moves.drop_operands.Goals as goal
 
 pub loop-k-preserved : goal.loop-k-preserved
