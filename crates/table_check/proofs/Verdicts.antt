@@ -2,9 +2,9 @@
 use Rattle.std.specs.Prelude.{◌≡◌, refl, List, [], ◌∷◌, ◌++◌, ℕ, ◌≤◌, Result, Ok, Err, ⊤}
 use Rattle.std.proofs.Common.{sym, ◌∙◌, arith}
 use Rattle.std.proofs.Math.Path.{ap}
-use Rattle.values.specs.Ends.{Refusal, Judged, accepted, refused}
+use Rattle.values.specs.Ends.{Refusal, refusal, Judged, accepted, refused}
 use Rattle.values.specs.declared.Refusal as code
-use Rattle.values.specs.Refusals.{coded, in_code}
+use Rattle.values.specs.Refusals.{in_code}
 use Rattle.language.specs.Tree.{Tree}
 use Rattle.language.specs.Table.{read_table}
 use Rattle.language.specs.Faults.{faults}
@@ -13,7 +13,8 @@ use Rattle.language.specs.Judge as judge
 use Rattle.language.specs.Judge.{judge_tree, judge_table}
 use Rattle.logic.specs.Tests.{clash}
 use Rattle.table_entries.specs.declared.Fault.{Fault}
-use Rattle.table_read.specs.Walk.{fault, reading_of}
+use Rattle.table_entries.specs.Faults.{refusal_of, told}
+use Rattle.table_read.specs.Walk.{reading_of}
 use Rattle.table_forms.specs.Tables.{Reads}
 use Rattle.table_names.specs.Answer.{GivesFirst, first_fault}
 use Rattle.table_limits.specs.Usage.{Limits, limited_of}
@@ -21,11 +22,11 @@ use Rattle.table_check.specs.Small.{Narrow, narrow, Sixes, sixes}
 use Rattle.table_check.specs.Checked.{checked_of}
 
 -- ── reading ──
-pub unread : (l : List ℕ) (f : Fault) → Err f ≡ reading_of (read_table l) → Err f ≡ reading_of (judge_table l)
+pub unread : (l : List ℕ) (f : Fault) → Err (refusal_of f) ≡ reading_of (read_table l) → Err (refusal_of f) ≡ reading_of (judge_table l)
 unfolding judge_table
 unread l f e = go (read_table l) e
   where
-    go : (j : Judged Tree) → Err f ≡ reading_of j → Err f ≡ reading_of (judge_tree j)
+    go : (j : Judged Tree) → Err (refusal_of f) ≡ reading_of j → Err (refusal_of f) ≡ reading_of (judge_tree j)
     go (accepted t) h = clash (cc)
     go (refused r) h = h
 
@@ -35,25 +36,25 @@ module _ (l : List ℕ) (r : Reads l) {v : Result ⊤ Fault} (g : GivesFirst l v
   unfolding judge_table
   tree-judged = ap judge_tree r.1
 
-  pub faulty : (f : Fault) → v ≡ Err f → Err f ≡ reading_of (judge_table l)
-  faulty f e = rw tree-judged (go (faults r.0) (sym e ∙ g r.0 r.1))
+  pub faulty : (f : Fault) → v ≡ Err f → Err (refusal_of f) ≡ reading_of (judge_table l)
+  faulty f e = rw tree-judged (go (faults r.0) (sym (ap told e) ∙ g r.0 r.1))
     where
-      go : (fs : List Refusal) → Err f ≡ first_fault fs → Err f ≡ reading_of (judge.first_fault r.0 (fs ++ limits r.0))
+      go : (fs : List Refusal) → Err (refusal_of f) ≡ first_fault fs → Err (refusal_of f) ≡ reading_of (judge.first_fault r.0 (fs ++ limits r.0))
       go [] h = clash (cc)
       go (q ∷ fs) h = h
 
   module _ (e : v ≡ Ok tt) {u : Result ⊤ ℕ} (k : Limits l u) where
     limits-judged : judge_table l ≡ judge.first_fault r.0 (limits r.0)
-    limits-judged = tree-judged ∙ go (faults r.0) (sym e ∙ g r.0 r.1)
+    limits-judged = tree-judged ∙ go (faults r.0) (sym (ap told e) ∙ g r.0 r.1)
       where
         go : (fs : List Refusal) → Ok tt ≡ first_fault fs → judge.first_fault r.0 (fs ++ limits r.0) ≡ judge.first_fault r.0 (limits r.0)
         go [] h = refl
         go (f ∷ fs) h = clash (cc)
 
-    pub over : (p : ℕ) → u ≡ Err p → Err (fault 6 p) ≡ reading_of (judge_table l)
+    pub over : (p : ℕ) → u ≡ Err p → Err (refusal 6 p) ≡ reading_of (judge_table l)
     over p z = rw limits-judged (go (limits r.0) (sixes l r.0 r.1) (sym z ∙ k r.0 r.1))
       where
-        go : (fs : List Refusal) → Sixes 2048 fs → Err p ≡ limited_of fs → Err (fault 6 p) ≡ reading_of (judge.first_fault r.0 fs)
+        go : (fs : List Refusal) → Sixes 2048 fs → Err p ≡ limited_of fs → Err (refusal 6 p) ≡ reading_of (judge.first_fault r.0 fs)
         go [] s h = clash (cc)
         go (f ∷ fs) s h = cc s.0
 
@@ -69,9 +70,9 @@ pub accepts : (j : Judged Tree) → Ok tt ≡ reading_of j → Ok tt ≡ checked
 accepts (accepted t) h = refl
 accepts (refused r) h = clash (cc)
 
-pub refuses : (j : Judged Tree) (f : Fault) → Err f ≡ reading_of j → Err (coded f.number f.place) ≡ checked_of j
-refuses (accepted t) f h = clash (cc)
-refuses (refused r) f h = let z : f ≡ fault r.number r.place = cc in rw z
+pub refuses : (j : Judged Tree) (r : Refusal) → Err r ≡ reading_of j → Err (in_code r) ≡ checked_of j
+refuses (accepted t) r h = clash (cc)
+refuses (refused q) r h = let z : r ≡ q = cc in rw z
 
 -- ── a refusal's place is at most the entry count ──
 pub place-small : (l : List ℕ) (r : code.Refusal) → Err r ≡ checked_of (judge_table l) → r.place ≤ 2048

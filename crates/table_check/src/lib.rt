@@ -3,6 +3,7 @@
 
 ghost use Rattle.std.specs.Prelude.{◌≡◌, ◌≤◌, replicate};
 ghost use Rattle.language.specs.Judge.{judge_table};
+ghost use Rattle.table_entries.specs.Faults.{told};
 ghost use Rattle.table_read.specs.Walk.{reading_of};
 ghost use Rattle.table_read.specs.Filling.{Hands};
 ghost use Rattle.table_check.specs.Checked.{checked_of, Lends, Leaves};
@@ -13,11 +14,11 @@ use values::Refusal;
 // The first fault of a table: where it does not read, its first fault of another kind, and then the first body over its limits.
 fn judged(table: &[u8], sizes: &mut [u16], env: &mut [u32]) -> Result<(), Fault>
     requires { Lends table.now sizes.old env.old }
-    ensures { (result ≡ reading_of (judge_table table.now)) × Hands table.now sizes.new result }
+    ensures { (told result ≡ reading_of (judge_table table.now)) × Hands table.now sizes.new result }
 {
     table_read::read_table(table, sizes)?;
     table_names::first_fault(table, sizes, env)?;
-    table_limits::over_limits(table).map_err(|place| Fault { number: 6, place })
+    table_limits::over_limits(table).map_err(Fault::OverLimits)
 }
 
 // With arrays that have room for the sizes of the entries and for the names in sight; the sizes of an accepted table are left to the caller. The
@@ -29,8 +30,8 @@ pub fn check_in(table: &[u8], sizes: &mut [u16], env: &mut [u32]) -> Result<(), 
     match judged(table, sizes, env) {
         Ok(()) => Ok(()),
         Err(fault) => Err(Refusal {
-            number: fault.number,
-            place: fault.place as u32,
+            number: fault.number(),
+            place: fault.place() as u32,
         }),
     }
 }

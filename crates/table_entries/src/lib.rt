@@ -4,14 +4,55 @@
 
 ghost use Rattle.std.specs.Prelude.{◌≡◌, ◌+◌, ◌*◌, ◌≤◌, length};
 ghost use Rattle.words.specs.Numbers.{half_at, word_at, integer_of};
+ghost use Rattle.table_entries.specs.Faults.{refusal_of};
 
 use formats::entries::*;
 
-// What is wrong with a table, and where: the refusal's number, and how many entries stand before the one at fault.
+// What is wrong with a table, and at which entry: how many entries stand before it.
 #[derive(Clone, Copy)]
-pub struct Fault {
-    pub number: u8,
-    pub place: usize,
+pub enum Fault {
+    // 1: empty, over 16,384 bytes, or not in eights
+    Misshapen,
+    // 2: does not read as one tree within the layout
+    Unread(usize),
+    // 3: name undefined, or twice in a block
+    Unnamed(usize),
+    // 4: wrong type, sort of name or operand count
+    Mistyped(usize),
+    // 5: label out of a goto's reach
+    OutOfReach(usize),
+    // 6: over a body's limits
+    OverLimits(usize),
+}
+
+impl Fault {
+    // the refusal's number
+    pub fn number(self) -> u8
+        ensures { result ≡ (refusal_of self).number }
+    {
+        match self {
+            Fault::Misshapen => 1,
+            Fault::Unread(_) => 2,
+            Fault::Unnamed(_) => 3,
+            Fault::Mistyped(_) => 4,
+            Fault::OutOfReach(_) => 5,
+            Fault::OverLimits(_) => 6,
+        }
+    }
+
+    // the refusal's place
+    pub fn place(self) -> usize
+        ensures { result ≡ (refusal_of self).place }
+    {
+        match self {
+            Fault::Misshapen => 0,
+            Fault::Unread(place)
+            | Fault::Unnamed(place)
+            | Fault::Mistyped(place)
+            | Fault::OutOfReach(place)
+            | Fault::OverLimits(place) => place,
+        }
+    }
 }
 
 pub fn kind_at(table: &[u8], place: usize) -> u16

@@ -12,7 +12,8 @@ use Rattle.language.specs.Faults.{type_e, is_ty, mistyped_unless, size_e, faults
 use Rattle.table_entries.specs.declared.Fault.{Fault}
 use Rattle.table_scopes.specs.Environment.{env_of}
 use Rattle.table_entries.specs.Stands.{stands-left, stands-right, stands-tail}
-use Rattle.table_scopes.specs.Flaws.{Verdict, Says, says_first, says_then, fault}
+use Rattle.table_entries.specs.declared.Fault.TheVariants.{Mistyped}
+use Rattle.table_scopes.specs.Flaws.{Verdict, Says, says_first, says_then}
 use Rattle.table_scopes.specs.Trees.{length-E, length-Items}
 use Rattle.table_scopes.specs.Defines.{labels-bulk}
 use Rattle.table_types.specs.Types.{ty_num, is_number}
@@ -29,7 +30,7 @@ guard-count loops n a t e = sym t
 guard-count cases n a t e = e
 
 -- a test, by whether the type is the one that is asked for
-says-tested : (b : Bool) (p : ℕ) → Says (If b then Ok 1 else Err (fault 4 p)) (mistyped_unless b p)
+says-tested : (b : Bool) (p : ℕ) → Says (If b then Ok 1 else Err (Mistyped p)) (mistyped_unless b p)
 says-tested true p = refl
 says-tested false p = ([], refl)
 

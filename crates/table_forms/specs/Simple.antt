@@ -16,7 +16,8 @@ use Rattle.table_entries.specs.declared.Fault.{Fault}
 use Rattle.table_scopes.specs.Environment.{env_of, find}
 use Rattle.table_entries.specs.Entries.{half-part, rest}
 use Rattle.table_entries.specs.Stands.{stands-left, stands-tail}
-use Rattle.table_scopes.specs.Flaws.{Verdict, says_first, says_then, fault}
+use Rattle.table_entries.specs.declared.Fault.TheVariants.{Mistyped}
+use Rattle.table_scopes.specs.Flaws.{Verdict, says_first, says_then}
 use Rattle.table_scopes.specs.Trees.{length-E}
 use Rattle.table_scopes.specs.Defines.{name-small}
 use Rattle.table_types.specs.Settle.{values, settled_by, controls, Within}
@@ -193,7 +194,7 @@ module _ {l part : List ℕ} {nesting at : ℕ} {sizes old : List ℕ} {top : �
   fixed-is (labelled a) h q = absurd h
 
   -- it is one, and that is the first fault
-  pub simple-fixed : fixed_by part (find (half_at part 10) (env_of old top)) ≡ true → Typed SimpleForm l part nesting at sizes old old top (Err (fault 4 (at + 1)))
+  pub simple-fixed : fixed_by part (find (half_at part 10) (env_of old top)) ≡ true → Typed SimpleForm l part nesting at sizes old old top (Err (Mistyped (at + 1)))
   simple-fixed e =
       record {
         kept = refl;

@@ -11,7 +11,8 @@ use Rattle.words.specs.Numbers.{half_at}
 use Rattle.table_scopes.specs.Environment.{Found, env_of, find}
 use Rattle.table_entries.specs.Stands.{Stands}
 use Rattle.table_entries.specs.Sizes.{Known}
-use Rattle.table_scopes.specs.Flaws.{Verdict, Says, fault}
+use Rattle.table_entries.specs.declared.Fault.TheVariants.{Mistyped}
+use Rattle.table_scopes.specs.Flaws.{Verdict, Says}
 use Rattle.table_scopes.specs.Sees.{Legible, Sees}
 use Rattle.table_scopes.specs.Defines.{OnceItems, bulk}
 use Rattle.table_types.specs.Settle.{values, controls}
@@ -141,4 +142,4 @@ unfoldable pub guarded_by : ℕ → ℕ → ℕ
 guarded_by k a = If eqb k 23 then 2 else If eqb k 30 then a else 1
 
 unfoldable pub tested_by : ℕ → ℕ → ℕ → Verdict
-tested_by k t p = If eqb k 30 then If eqb t 1 then Ok 1 else Err (fault 4 p) else If eqb t 2 then Ok 1 else Err (fault 4 p)
+tested_by k t p = If eqb k 30 then If eqb t 1 then Ok 1 else Err (Mistyped p) else If eqb t 2 then Ok 1 else Err (Mistyped p)

@@ -6,18 +6,19 @@ use Rattle.language.specs.Table.{read_table}
 use Rattle.language.specs.Faults.{faults}
 use Rattle.values.specs.Ends.{Refusal}
 use Rattle.table_entries.specs.declared.Fault.{Fault}
-use Rattle.table_scopes.specs.Flaws.{Verdict, Says, fault}
+use Rattle.table_entries.specs.Faults.{told}
+use Rattle.table_scopes.specs.Flaws.{Verdict, Says}
 
-abbrev pub first_fault : List Refusal → Result (Unit {0}) Fault
+abbrev pub first_fault : List Refusal → Result (Unit {0}) Refusal
 first_fault [] = Ok tt
-first_fault (r ∷ rs) = Err (fault r.number r.place)
+first_fault (r ∷ rs) = Err r
 
-pub says_none : (r : Verdict) (t : ℕ) (fs : List Refusal) → r ≡ Ok t → Says r fs → Ok tt ≡ first_fault fs
+pub says_none : (r : Verdict) (t : ℕ) (fs : List Refusal) → r ≡ Ok t → Says r fs → told (Ok tt) ≡ first_fault fs
 says_none r t fs e h = rw (rw e at h)
 
-pub says_one : (r : Verdict) (f : Fault) (fs : List Refusal) → r ≡ Err f → Says r fs → Err f ≡ first_fault fs
+pub says_one : (r : Verdict) (f : Fault) (fs : List Refusal) → r ≡ Err f → Says r fs → told (Err f) ≡ first_fault fs
 says_one r f fs e h = rw (rw e at h).1
 
 -- whatever tree the table reads as, the answer is its first fault
 abbrev pub GivesFirst : List ℕ → Result (Unit {0}) Fault → Type 0
-GivesFirst l r = (t : Tree) → read_table l ≡ accepted t → r ≡ first_fault (faults t)
+GivesFirst l r = (t : Tree) → read_table l ≡ accepted t → told r ≡ first_fault (faults t)

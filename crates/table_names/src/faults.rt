@@ -45,7 +45,7 @@ fn returned(heading: u32, t: u32, place: usize) -> Result<u32, Fault>
     if result == t {
         Ok(0)
     } else {
-        Err(Fault { number: 4, place })
+        Err(Fault::Mistyped(place))
     }
 }
 

@@ -63,7 +63,7 @@ fn tested(kind: u16, t: u32, place: usize) -> Result<u32, Fault>
     if t == asked {
         Ok(1)
     } else {
-        Err(Fault { number: 4, place })
+        Err(Fault::Mistyped(place))
     }
 }
 
@@ -150,10 +150,7 @@ fn simple(
     let kind = table_entries::kind_at(part, 0);
     let name = table_entries::a_at(part, 0);
     if is_fixed(part, kind, env, top) {
-        return Err(Fault {
-            number: 4,
-            place: at + 1,
-        });
+        return Err(Fault::Mistyped(at + 1));
     }
     let count = operands_of(kind, table_entries::b_at(part, 0));
     let below = &part[ENTRY_BYTES..];

@@ -13,6 +13,7 @@ use lib.ListN.{length, take, drop, replicate, length-drop}
 use lib.Seq.{drop-length, drop-drop}
 use borrow.Author.Tests.{ne_eqb, eq-eqb, lt-ltb, le-ltb}
 use Rattle.logic.specs.Choice.{If◌then◌else◌}
+use Rattle.values.specs.Ends.{Refusal, refusal}
 use Rattle.values.specs.Types.{integer}
 use Rattle.language.specs.Tree as tree
 use Rattle.language.specs.Tree.{proper, function, Global, local, class, procedure}
@@ -25,9 +26,8 @@ use Rattle.table_read.specs.declared.kinds.Sort.{Sort}
 use Rattle.table_read.specs.declared.kinds.Sort.TheVariants.{Typed, Part, Stmt, Expr}
 use Rattle.std.specs.Prelude.{Result, Ok, Err}
 use Rattle.std.specs.Prelude.{⊤}
-use Rattle.table_entries.specs.declared.Fault.{Fault}
 use Rattle.table_read.specs.Operands.{sorts, body_sort}
-use Rattle.table_read.specs.Walk.{reading_of, fault, counted, moved, placed, onward, chain, kind_at, name_at, size_at, laid_at}
+use Rattle.table_read.specs.Walk.{reading_of, counted, moved, placed, onward, chain, kind_at, name_at, size_at, laid_at}
 use Rattle.table_read.specs.Walk.{stands_at, sorts_of, sorts_at, entered, walk, is_global, tally, walk_head, walk_below, walk_root}
 use Rattle.table_read.proofs.Ends.{Ends, ended, halted, Same, Chained, ends-count, ends-moved, ends-made, ends-then, ends-entry, ends-if, ends-stop, same-made}
 use Rattle.table_read.proofs.Ends.{same-one, same-times, times-then, same_first}
@@ -274,16 +274,16 @@ module _ (es : List Entry) where
 
 -- ── the table ──
 module _ (l : List ℕ) where
-  pub table_empty : length l ≡ 0 → Err (fault 1 0) ≡ reading_of (read_table l)
+  pub table_empty : length l ≡ 0 → Err (refusal 1 0) ≡ reading_of (read_table l)
   unfolding read_table
   table_empty h = rw (eq-eqb _ _ h)
 
   module _ (some : length l ≡ 0 → ⊥) where
-    pub table-over : 16384 < length l → Err (fault 1 0) ≡ reading_of (read_table l)
+    pub table-over : 16384 < length l → Err (refusal 1 0) ≡ reading_of (read_table l)
     unfolding read_table
     table-over h = rw (ne_eqb _ _ some, lt-ltb _ _ h)
 
-    pub table-uneven : length l ≤ 16384 → (length l % 8 ≡ 0 → ⊥) → Err (fault 1 0) ≡ reading_of (read_table l)
+    pub table-uneven : length l ≤ 16384 → (length l % 8 ≡ 0 → ⊥) → Err (refusal 1 0) ≡ reading_of (read_table l)
     unfolding read_table
     table-uneven h k = rw (ne_eqb _ _ some, le-ltb _ _ h, ne_eqb _ _ k)
 
@@ -292,7 +292,7 @@ module _ (l : List ℕ) where
     table-shaped h k = rw (ne_eqb _ _ some, le-ltb _ _ h, eq-eqb _ _ k)
 
 module _ (es : List Entry) where
-  abbrev answered : table.Read tree.Tree → Result ⊤ Fault
+  abbrev answered : table.Read tree.Tree → Result ⊤ Refusal
   answered x = reading_of (one_tree es x)
 
   pub one-tree : {n : ℕ} {x : Result ℕ ℕ} → x ≡ walk_root es → x ≡ Ok n → n ≡ length es → Ok tt ≡ answered (first form_root es)
@@ -303,22 +303,22 @@ module _ (es : List Entry) where
       go (ended t m l) q h = let s : m ≡ length es = cc in rw (s, drop-length es)
       go (halted m l) q h = clash (cc)
 
-  left : (t : tree.Tree) (n : ℕ) (rest : List Entry) → length rest ≡ length es - n → n ≤ length es → (n ≡ length es → ⊥) → Err (fault 2 n) ≡ answered (took t rest)
+  left : (t : tree.Tree) (n : ℕ) (rest : List Entry) → length rest ≡ length es - n → n ≤ length es → (n ≡ length es → ⊥) → Err (refusal 2 n) ≡ answered (took t rest)
   unfolding one_tree
   left t n [] e l h = absurd (omega arith)
   left t n (f ∷ fs) e l h = let z : length es - length (f ∷ fs) ≡ n = omega arith in rw z
 
-  pub more-entries : {n : ℕ} {x : Result ℕ ℕ} → x ≡ walk_root es → x ≡ Ok n → (n ≡ length es → ⊥) → Err (fault 2 n) ≡ answered (first form_root es)
+  pub more-entries : {n : ℕ} {x : Result ℕ ℕ} → x ≡ walk_root es → x ≡ Ok n → (n ≡ length es → ⊥) → Err (refusal 2 n) ≡ answered (first form_root es)
   more-entries e q h = go (roots.ends es) (sym e ∙ q) h
     where
-      go : {y : table.Read tree.Tree} {a : Result ℕ ℕ} {n : ℕ} → Ends es y a → a ≡ Ok n → (n ≡ length es → ⊥) → Err (fault 2 n) ≡ answered y
+      go : {y : table.Read tree.Tree} {a : Result ℕ ℕ} {n : ℕ} → Ends es y a → a ≡ Ok n → (n ≡ length es → ⊥) → Err (refusal 2 n) ≡ answered y
       go {n = n} (ended t m l) q h = let s : m ≡ n = cc in rw (← s) (left t m (drop m es) (length-drop m es) l (λ z. h (sym s ∙ z)))
       go (halted m l) q h = clash (cc)
 
-  pub no-tree : {p : ℕ} {x : Result ℕ ℕ} → x ≡ walk_root es → x ≡ Err p → Err (fault 2 p) ≡ answered (first form_root es)
+  pub no-tree : {p : ℕ} {x : Result ℕ ℕ} → x ≡ walk_root es → x ≡ Err p → Err (refusal 2 p) ≡ answered (first form_root es)
   unfolding one_tree
   no-tree e q = go (roots.ends es) (sym e ∙ q)
     where
-      go : {y : table.Read tree.Tree} {a : Result ℕ ℕ} {p : ℕ} → Ends es y a → a ≡ Err p → Err (fault 2 p) ≡ answered y
+      go : {y : table.Read tree.Tree} {a : Result ℕ ℕ} {p : ℕ} → Ends es y a → a ≡ Err p → Err (refusal 2 p) ≡ answered y
       go (ended t m l) q = clash (cc)
       go {p = p} (halted m l) q = let s : m ≡ p = cc in let z : length es - length (drop p es) ≡ p = omega (arith, length-drop p es) in rw (s, z)

@@ -1,21 +1,17 @@
 -- How the code reads, in its own terms: answers count entries from the start of the part that is read.
 use Rattle.std.specs.Prelude.{Bool, false, ◌&&◌, ◌||◌, List, [], ◌∷◌, ℕ, zero, suc, ◌+◌, eqb, ltb, nat_abs, drop, replicate, Result, Ok, Err, ⊤}
 use Rattle.logic.specs.Choice.{If◌then◌else◌}
-use Rattle.values.specs.Ends.{Judged, accepted, refused}
+use Rattle.values.specs.Ends.{Refusal, Judged, accepted, refused}
 use Rattle.language.specs.Tree as tree
 use Rattle.language.specs.Table.{Entry, in_layout}
 use Rattle.table_read.specs.declared.kinds.Sort.{Sort}
 use Rattle.table_read.specs.declared.kinds.Sort.TheVariants.{Typed, Decl, Part, Stmt, Target, Expr}
 use Rattle.table_read.specs.Operands.{is_s, is_e, sorts}
-use Rattle.table_entries.specs.declared.Fault.{Fault}
 
--- ── what the code answers of what is read ──
-abbrev pub fault : ℕ → ℕ → Fault
-fault n p = record { number = n; place = p }
-
-abbrev pub reading_of : Judged tree.Tree → Result ⊤ Fault
+-- ── what the code tells of what is read ──
+abbrev pub reading_of : Judged tree.Tree → Result ⊤ Refusal
 reading_of (accepted t) = Ok tt
-reading_of (refused r) = Err (fault r.number r.place)
+reading_of (refused r) = Err r
 
 -- ── answers ──
 -- the number that it holds

@@ -10,6 +10,7 @@ pub mod layout;
 ghost use Rattle.std.specs.Prelude.{◌≡◌, ◌+◌, ◌≤◌, ◌<◌, length, set};
 ghost use Rattle.language.specs.Table.{read_table};
 ghost use Rattle.language_laws.specs.Claims.{entries_of};
+ghost use Rattle.table_entries.specs.Faults.{told};
 ghost use Rattle.table_read.specs.Operands.{sorts};
 ghost use Rattle.table_read.specs.Walk.{reading_of, placed, chain, laid_at, stands_at, admitted_at, kind_at, name_at, size_at, walk, under, entered, is_global};
 ghost use Rattle.table_read.specs.Walk.{tally as tally_of, walk_head, walk_below, walk_root};
@@ -244,22 +245,16 @@ fn read_root(part: &[u8], sizes: &mut [u16]) -> Result<usize, usize>
 // Whether a table is one tree within the layout; any bytes. Where it is, the sizes of all its entries are left.
 pub fn read_table(table: &[u8], sizes: &mut [u16]) -> Result<(), Fault>
     requires { Wide table.now sizes.old }
-    ensures { (result ≡ reading_of (read_table table.now)) × Hands table.now sizes.new result }
+    ensures { (told result ≡ reading_of (read_table table.now)) × Hands table.now sizes.new result }
 {
     let bytes = table.len();
     if bytes == 0 || MAX_TABLE_BYTES < bytes || bytes % ENTRY_BYTES != 0 {
-        return Err(Fault {
-            number: 1,
-            place: 0,
-        });
+        return Err(Fault::Misshapen);
     }
-    let n = read_root(table, sizes).map_err(|place| Fault { number: 2, place })?;
+    let n = read_root(table, sizes).map_err(Fault::Unread)?;
     if n == bytes / ENTRY_BYTES {
         Ok(())
     } else {
-        Err(Fault {
-            number: 2,
-            place: n,
-        })
+        Err(Fault::Unread(n))
     }
 }

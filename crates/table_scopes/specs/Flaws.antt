@@ -5,20 +5,14 @@ use Rattle.logic.specs.Choice.{If◌then◌else◌}
 use Rattle.values.specs.Ends.{Refusal, refusal}
 use Rattle.table_scopes.specs.Environment.{Item, Found, found_of, Nothing, Def, find}
 use Rattle.table_entries.specs.declared.Fault.{Fault}
+use Rattle.table_entries.specs.Faults.{refusal_of}
+use Rattle.table_entries.specs.declared.Fault.TheVariants.{Unnamed, Mistyped}
 use Rattle.table_scopes.specs.declared.environment.Definition.{Definition}
 use Rattle.table_scopes.specs.Items.{kind_at, a_at, b_at}
 
 -- what a judgement answers: the number of a type, or what is wrong
 abbrev pub Verdict : Type 0
 Verdict = Result ℕ Fault
-
--- what is wrong, by its number, and where
-abbrev pub fault : ℕ → ℕ → Fault
-fault n p = record { number = n; place = p }
-
--- the refusal that a fault is
-abbrev pub refusal_of : Fault → Refusal
-refusal_of f = refusal f.number f.place
 
 -- an answer gives the first of the faults, if there is one
 abbrev pub Says : Verdict → List Refusal → Type 0
@@ -82,19 +76,19 @@ decl-not l v p e = rw (ne_eqb _ _ e)
 
 -- what is found decides
 module _ {r : Option Definition} {f : Found} {p : ℕ} (e : found_of r ≡ f) where
-  pub once-nothing : r ≡ None → Says (Err (fault 3 p)) (once_of f p)
+  pub once-nothing : r ≡ None → Says (Err (Unnamed p)) (once_of f p)
   once-nothing z = ([], rw (sym e, z))
 
   pub once-this : {d : Definition} (t : ℕ) → r ≡ Some d → d.place ≡ p → Says (Ok t) (once_of f p)
   once-this t z k = rw (sym e, z, eq-eqb _ _ k)
 
-  pub once-other : {d : Definition} → r ≡ Some d → ¬ (d.place ≡ p) → Says (Err (fault 3 p)) (once_of f p)
+  pub once-other : {d : Definition} → r ≡ Some d → ¬ (d.place ≡ p) → Says (Err (Unnamed p)) (once_of f p)
   once-other z k = ([], rw (sym e, z, ne_eqb _ _ k))
 
-  pub class-nothing : r ≡ None → Says (Err (fault 3 p)) (class_of f p)
+  pub class-nothing : r ≡ None → Says (Err (Unnamed p)) (class_of f p)
   class-nothing z = ([], rw (sym e, z))
 
-  pub class-wrong : {d : Definition} → r ≡ Some d → ¬ (d.sort ≡ 6) → Says (Err (fault 4 p)) (class_of f p)
+  pub class-wrong : {d : Definition} → r ≡ Some d → ¬ (d.sort ≡ 6) → Says (Err (Mistyped p)) (class_of f p)
   class-wrong z k = ([], rw (sym e, z, ne_eqb _ _ k))
 
 pub class-right : {r : Option Definition} {f : Found} {d : Definition} (p t : ℕ) → found_of r ≡ f → r ≡ Some d → d.sort ≡ 6 → Says (Ok t) (class_of f p)

@@ -305,11 +305,11 @@ pub fn once(env: &[u32], top: usize, name: u32, place: usize) -> Result<u32, Fau
     ensures { Says result (once_flaw (env_of env.now top) name place) }
 {
     match environment::find(env, top, name) {
-        None => Err(Fault { number: 3, place }),
+        None => Err(Fault::Unnamed(place)),
         Some(d) => if d.place as usize == place {
             Ok(0)
         } else {
-            Err(Fault { number: 3, place })
+            Err(Fault::Unnamed(place))
         },
     }
 }
@@ -323,11 +323,11 @@ fn classed(env: &[u32], top: usize, ty: u32, place: usize) -> Result<u32, Fault>
         return Ok(0);
     }
     match environment::find(env, top, ty - TYPE_REFERENCE) {
-        None => Err(Fault { number: 3, place }),
+        None => Err(Fault::Unnamed(place)),
         Some(d) => if d.sort == SORT_CLASS {
             Ok(0)
         } else {
-            Err(Fault { number: 4, place })
+            Err(Fault::Mistyped(place))
         },
     }
 }

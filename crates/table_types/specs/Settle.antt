@@ -6,8 +6,9 @@ use Rattle.std.proofs.Math.Decide.{ℕ_discrete}
 use Rattle.std.proofs.Math.Seq.{drop-cons}
 use borrow.Author.Tests.{eq-eqb, ne_eqb, ltb-true, ltb-false}
 use Rattle.logic.specs.Choice.{If◌then◌else◌}
+use Rattle.table_entries.specs.declared.Fault.TheVariants.{Unnamed, Mistyped, OutOfReach}
 use Rattle.table_scopes.specs.Environment.{Item, item, Found, Nothing, Def, env_of}
-use Rattle.table_scopes.specs.Flaws.{Verdict, fault}
+use Rattle.table_scopes.specs.Flaws.{Verdict}
 use Rattle.table_scopes.specs.Items.{b_at}
 
 -- the numbers of the first n items, the last first
@@ -59,20 +60,20 @@ types_at l p zero = []
 types_at l p (suc n) = b_at l p ∷ types_at l (p + 1) n
 
 abbrev pub right_if : Bool → ℕ → ℕ → Verdict
-right_if b t p = If b then Ok t else Err (fault 4 p)
+right_if b t p = If b then Ok t else Err (Mistyped p)
 
 -- a variable, a parameter or a control name
 abbrev pub has_value : ℕ → Bool
 has_value s = If eqb s 4 then true else eqb s 8
 
 abbrev pub aimed_by : ℕ → Bool → ℕ → Verdict
-aimed_by s w p = If eqb s 5 then If w then Err (fault 5 p) else Ok 1 else Err (fault 4 p)
+aimed_by s w p = If eqb s 5 then If w then Err (OutOfReach p) else Ok 1 else Err (Mistyped p)
 
 abbrev pub called_by : List ℕ → ℕ → ℕ → ℕ → Bool → ℕ → List ℕ → Verdict
-called_by l s n q right p vs = If eqb s 7 then If right then right_if (same_all vs (types_at l (q + 1) (n / 256))) (n % 256) p else Err (fault 4 p) else Err (fault 4 p)
+called_by l s n q right p vs = If eqb s 7 then If right then right_if (same_all vs (types_at l (q + 1) (n / 256))) (n % 256) p else Err (Mistyped p) else Err (Mistyped p)
 
 abbrev pub recorded_by : List ℕ → ℕ → ℕ → ℕ → ℕ → ℕ → List ℕ → Verdict
-recorded_by l a s n q p vs = If eqb s 6 then right_if (same_all vs (types_at l (q + 1) n)) (65536 + a) p else Err (fault 4 p)
+recorded_by l a s n q p vs = If eqb s 6 then right_if (same_all vs (types_at l (q + 1) n)) (65536 + a) p else Err (Mistyped p)
 
 unfoldable pub named_by : List ℕ → ℕ → ℕ → ℕ → ℕ → ℕ → Bool → ℕ → List ℕ → Verdict
 named_by l k a s n q w p vs =
@@ -87,7 +88,7 @@ unfoldable pub names_by : ℕ → Bool
 names_by k = If eqb k 25 then true else If eqb k 27 then true else If ltb k 43 then false else ltb k 48
 
 abbrev pub found_by : List ℕ → ℕ → ℕ → ℕ → Found → List ℕ → Verdict
-found_by l k a p Nothing vs = Err (fault 3 p)
+found_by l k a p Nothing vs = Err (Unnamed p)
 found_by l k a p (Def s n q w) vs = named_by l k a s n q w p vs
 
 abbrev pub type_by : ℕ → ℕ → List ℕ → ℕ
@@ -110,7 +111,7 @@ unfoldable pub is_leaf : ℕ → Bool
 is_leaf k = If ltb k 40 then false else ltb k 45
 
 abbrev pub leaf_of : ℕ → ℕ → ℕ → Found → Verdict
-leaf_of k a p Nothing = Err (fault 3 p)
+leaf_of k a p Nothing = Err (Unnamed p)
 leaf_of k a p (Def s n q w) = If eqb k 43 then right_if (eqb s 6) (65536 + a) p else right_if (has_value s) n p
 
 unfoldable pub leaf_by : ℕ → ℕ → ℕ → Found → Verdict

@@ -22,7 +22,8 @@ use Rattle.language_laws.specs.Claims.{entries_of}
 use Rattle.table_scopes.specs.Environment.{Item, Found, Nothing, Def, find}
 use Rattle.table_entries.specs.Entries.{length-entries}
 use Rattle.table_entries.specs.Stands.{Stands, stands-tail, stands-within, fields}
-use Rattle.table_scopes.specs.Flaws.{Verdict, Says, fault}
+use Rattle.table_entries.specs.declared.Fault.TheVariants.{Unnamed, Mistyped, OutOfReach}
+use Rattle.table_scopes.specs.Flaws.{Verdict, Says}
 use Rattle.table_scopes.specs.Sees.{Legible, Declared, Agrees, Sees}
 use Rattle.table_scopes.specs.Trees.{length-map}
 use Rattle.table_scopes.specs.Defines.{number-here}
@@ -79,10 +80,10 @@ module _ {l : List ℕ} (legible : Legible l) where
   found_within (Def s n q w) (found (is_procedure ts us) b) h = (λ e. declared-within (n / 256) q ts h.1.1, λ e. absurd (omega (arith, h.1.0)))
   found_within (Def s n q w) (found is_control b) h = (λ e. absurd (omega (arith, h.1.0)), λ e. absurd (omega (arith, h.1.0)))
 
-undefined : {p : ℕ} {o : Option Ty} → Settled (Err (fault 3 p)) (refusal 3 p ∷ []) o
+undefined : {p : ℕ} {o : Option Ty} → Settled (Err (Unnamed p)) (refusal 3 p ∷ []) o
 undefined = record { says = ([], refl); types = tt }
 
-wrong : {p : ℕ} {o : Option Ty} → Settled (Err (fault 4 p)) (refusal 4 p ∷ []) o
+wrong : {p : ℕ} {o : Option Ty} → Settled (Err (Mistyped p)) (refusal 4 p ∷ []) o
 wrong = record { says = ([], refl); types = tt }
 
 right-if : (b : Bool) (n p : ℕ) (o : Option Ty) → n ≡ ty_num o → Settled (right_if b n p) (mistyped_unless b p) o
@@ -100,7 +101,7 @@ swapped : (c : ℕ) (t : Option Ty) → eqb (65536 + c) (ty_num t) ≡ is_ty (re
 swapped c none = ne_eqb (65536 + c) 0 (λ z. omega arith)
 swapped c (some t) = eqb_comm (65536 + c) (ty_code t)
 
-goes : (p : ℕ) (b : Bool) → Settled (If b then Err (fault 5 p) else Ok 1) (If b then refusal 5 p ∷ [] else []) (some integer)
+goes : (p : ℕ) (b : Bool) → Settled (If b then Err (OutOfReach p) else Ok 1) (If b then refusal 5 p ∷ [] else []) (some integer)
 goes p true = record { says = ([], refl); types = tt }
 goes p false = record { says = refl; types = refl }
 

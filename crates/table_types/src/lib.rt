@@ -117,7 +117,7 @@ fn right_if(b: bool, t: u32, place: usize) -> Result<u32, Fault>
     if b {
         Ok(t)
     } else {
-        Err(Fault { number: 4, place })
+        Err(Fault::Mistyped(place))
     }
 }
 
@@ -133,10 +133,10 @@ fn aimed(d: Definition, place: usize) -> Result<u32, Fault>
     ensures { result ≡ aimed_by d.sort d.walled place }
 {
     if d.sort != SORT_LABEL {
-        return Err(Fault { number: 4, place });
+        return Err(Fault::Mistyped(place));
     }
     if d.walled {
-        Err(Fault { number: 5, place })
+        Err(Fault::OutOfReach(place))
     } else {
         Ok(1)
     }
@@ -156,10 +156,10 @@ fn called(
     ensures { result ≡ called_by table.now d.sort d.number d.place right place (values count (env_of env.now (top + count))) }
 {
     if d.sort != SORT_PROCEDURE {
-        return Err(Fault { number: 4, place });
+        return Err(Fault::Mistyped(place));
     }
     if !right {
-        return Err(Fault { number: 4, place });
+        return Err(Fault::Mistyped(place));
     }
     let parameters = d.number as usize / 256;
     right_if(
@@ -183,7 +183,7 @@ fn recorded(
     ensures { result ≡ recorded_by table.now a d.sort d.number d.place place (values count (env_of env.now (top + count))) }
 {
     if d.sort != SORT_CLASS {
-        return Err(Fault { number: 4, place });
+        return Err(Fault::Mistyped(place));
     }
     let fields = d.number as usize;
     right_if(
@@ -252,7 +252,7 @@ pub fn settle(
 {
     if names(kind) {
         match table_scopes::find(env, top, a) {
-            None => Err(Fault { number: 3, place }),
+            None => Err(Fault::Unnamed(place)),
             Some(d) => named(table, kind, a, d, place, count, env, top),
         }
     } else {
@@ -313,7 +313,7 @@ pub fn leaf(kind: u16, a: u32, place: usize, env: &[u32], top: usize) -> Result<
         KIND_LOGICAL => Ok(TYPE_LOGICAL),
         KIND_BITS => Ok(TYPE_BITS),
         _ => match table_scopes::find(env, top, a) {
-            None => Err(Fault { number: 3, place }),
+            None => Err(Fault::Unnamed(place)),
             Some(d) => if kind == KIND_NULL {
                 right_if(d.sort == SORT_CLASS, TYPE_REFERENCE + a, place)
             } else {

@@ -4,8 +4,10 @@ use Rattle.std.specs.Prelude.{Result, Ok, Err, ⊤, ℕ}
 use Rattle.std.proofs.Common.{rules}
 use Rattle.std.proofs.lemmas.Result.{MatchResult-at_ok, MatchResult-at_err, err_from_is_err_and}
 use Rattle.language.specs.Judge.{judge_table}
+use Rattle.table_entries.specs.Faults.{told}
 use Rattle.table_entries.specs.Sizes.{Known}
-use Rattle.table_read.specs.Walk.{fault, reading_of}
+use Rattle.table_entries.specs.declared.Fault.TheVariants.{OverLimits}
+use Rattle.table_read.specs.Walk.{reading_of}
 use Rattle.table_read.specs.Filling.{Hands}
 use Rattle.table_forms.specs.Tables.{Reads, read_held}
 use Rattle.table_check.specs.Checked.{reads}
@@ -19,11 +21,11 @@ read_table-requires c = c.requires.0
 pub returns-in_err-read_table : goal.returns-in_err-read_table
 returns-in_err-read_table c =
     let e : c.from_residual.result ≡ Err c.in_err-read_table.field-0.0 = search rules in
-    rw e (unread _ c.in_err-read_table.field-0.0 (sym c.in_err-read_table.was ∙ c.read_table.ensures.0), tt)
+    rw e (unread _ c.in_err-read_table.field-0.0 (sym (ap told c.in_err-read_table.was) ∙ c.read_table.ensures.0), tt)
 
 -- a table that reads, and the sizes of its entries
 read : (c : In_ok-read_table) → Reads c.args.table.now
-read c = reads c.args.table.now (sym c.in_ok-read_table.was ∙ c.read_table.ensures.0)
+read c = reads c.args.table.now (sym (ap told c.in_ok-read_table.was) ∙ c.read_table.ensures.0)
 
 known : (c : In_ok-read_table) → Known c.args.table.now c.read_table.new.sizes
 known c = rw c.in_ok-read_table.was at c.read_table.ensures.1
@@ -40,11 +42,11 @@ returns-in_err-first_fault c =
     rw e (faulty _ r c.first_fault.ensures c.in_err-first_fault.field-0.0 c.in_err-first_fault.was, tt)
 
 -- what the limits answer, as a fault
-limited : (c : After-map_err) → (p : ℕ) → c.over_limits.result ≡ Err p → c.map_err.result ≡ Err (fault 6 p)
+limited : (c : After-map_err) → (p : ℕ) → c.over_limits.result ≡ Err p → c.map_err.result ≡ Err (OverLimits p)
 limited c p e =
     let h = err_from_is_err_and c.map_err.result (MatchResult-at_err _ _ p e c.map_err.ensures.cases) in
     let q = h.2 in
-    let f : h.0 ≡ fault 6 p = search rules in
+    let f : h.0 ≡ OverLimits p = search rules in
     h.1 ∙ ap Err f
 
 hands : (l sizes : _) (r : Result ⊤ _) → Known l sizes → Hands l sizes r
@@ -57,6 +59,6 @@ returns c = (go c.over_limits.result refl, hands _ _ c.map_err.result (known (go
     r : Reads c.args.table.now
     r = read (goal.at.returns c).In_ok-read_table
 
-    go : (u : Result ⊤ ℕ) → c.over_limits.result ≡ u → c.map_err.result ≡ reading_of (judge_table c.args.table.now)
-    go (Ok tt) e = MatchResult-at_ok _ _ tt e c.map_err.ensures.cases ∙ within _ r c.first_fault.ensures (c.in_ok-first_fault.was ∙ ap Ok refl) c.over_limits.ensures e
-    go (Err p) e = limited (goal.at.returns c).After-map_err p e ∙ over _ r c.first_fault.ensures (c.in_ok-first_fault.was ∙ ap Ok refl) c.over_limits.ensures p e
+    go : (u : Result ⊤ ℕ) → c.over_limits.result ≡ u → told c.map_err.result ≡ reading_of (judge_table c.args.table.now)
+    go (Ok tt) e = ap told (MatchResult-at_ok _ _ tt e c.map_err.ensures.cases) ∙ within _ r c.first_fault.ensures (c.in_ok-first_fault.was ∙ ap Ok refl) c.over_limits.ensures e
+    go (Err p) e = ap told (limited (goal.at.returns c).After-map_err p e) ∙ over _ r c.first_fault.ensures (c.in_ok-first_fault.was ∙ ap Ok refl) c.over_limits.ensures p e

@@ -8,7 +8,7 @@ use native.Mathlib.Omega.{arith}
 use Rattle.language_laws.specs.Claims.{entries_of}
 use Rattle.table_entries.specs.Entries.{entries-length}
 use Rattle.table_entries.specs.Sizes.{sized-known}
-use Rattle.table_read.specs.Walk.{fault}
+use Rattle.table_entries.specs.declared.Fault.TheVariants.{Unread}
 use Rattle.table_read.proofs.Roots.{table_empty, table-over, table-uneven, table-shaped, one-tree, more-entries, no-tree}
 use Rattle.table_read.proofs.read_table.Goals as goal
 use Rattle.table_read.proofs.read_table.Goals.{then-bytes-eq0-via-then-bytes-eq0, then-bytes-eq0-via-else-bytes-eq0+then-bytes-gt-MAX_TABLE_BYTES, then-bytes-eq0-via-else-bytes-eq0+else-bytes-gt-MAX_TABLE_BYTES+then-bytes-ne0}
@@ -36,7 +36,7 @@ returns-in_err-n c =
     let e : c.from_residual.result ≡ Err c.in_err-n.field-0.0 = search rules in
     let q = placed-at c.read_root.result (sym c.map_err.ensures.variant ∙ ap is_ok c.in_err-n.was) in
     let h = told _ c.map_err.result c.in_err-n.was (MatchResult-at_err _ _ q.0 q.1 c.map_err.ensures.cases) in
-    let f : c.in_err-n.field-0.0 ≡ fault 2 q.0 = search rules in
+    let f : c.in_err-n.field-0.0 ≡ Unread q.0 = search rules in
     rw (e, f) (
       rw (table-shaped c.args.table.now c.if-bytes-eq0.false c.if-bytes-gt-MAX_TABLE_BYTES.false c.if-bytes-ne0.false)
           (no-tree (entries_of c.args.table.now) c.read_root.ensures.0 q.1),
