@@ -31,13 +31,16 @@ unread l f e = go (read_table l) e
     go (refused r) h = h
 
 -- ── faults, and then limits ──
-module _ (l : List ℕ) (r : Reads l) {v : Result ⊤ Fault} (g : GivesFirst l v) where
-  tree-judged : judge_table l ≡ judge.first_fault r.0 (faults r.0 ++ limits r.0)
-  unfolding judge_table
-  tree-judged = ap judge_tree r.1
+tree-judged : (l : List ℕ) (r : Reads l) → judge_table l ≡ judge.first_fault r.0 (faults r.0 ++ limits r.0)
+unfolding judge_table
+tree-judged l r = ap judge_tree r.1
 
+limit-is : (f : Refusal) (p : ℕ) → f.number ≡ 6 → f.place ≡ p → refusal 6 p ≡ f
+limit-is f p e q = rw (sym e, sym q)
+
+module _ (l : List ℕ) (r : Reads l) {v : Result ⊤ Fault} (g : GivesFirst l v) where
   pub faulty : (f : Fault) → v ≡ Err f → Err (refusal_of f) ≡ reading_of (judge_table l)
-  faulty f e = rw tree-judged (go (faults r.0) (sym (ap told e) ∙ g r.0 r.1))
+  faulty f e = rw (tree-judged l r) (go (faults r.0) (sym (ap told e) ∙ g r.0 r.1))
     where
       go : (fs : List Refusal) → Err (refusal_of f) ≡ first_fault fs → Err (refusal_of f) ≡ reading_of (judge.first_fault r.0 (fs ++ limits r.0))
       go [] h = clash (cc)
@@ -45,7 +48,7 @@ module _ (l : List ℕ) (r : Reads l) {v : Result ⊤ Fault} (g : GivesFirst l v
 
   module _ (e : v ≡ Ok tt) {u : Result ⊤ ℕ} (k : Limits l u) where
     limits-judged : judge_table l ≡ judge.first_fault r.0 (limits r.0)
-    limits-judged = tree-judged ∙ go (faults r.0) (sym (ap told e) ∙ g r.0 r.1)
+    limits-judged = tree-judged l r ∙ go (faults r.0) (sym (ap told e) ∙ g r.0 r.1)
       where
         go : (fs : List Refusal) → Ok tt ≡ first_fault fs → judge.first_fault r.0 (fs ++ limits r.0) ≡ judge.first_fault r.0 (limits r.0)
         go [] h = refl
@@ -56,7 +59,7 @@ module _ (l : List ℕ) (r : Reads l) {v : Result ⊤ Fault} (g : GivesFirst l v
       where
         go : (fs : List Refusal) → Sixes 2048 fs → Err p ≡ limited_of fs → Err (refusal 6 p) ≡ reading_of (judge.first_fault r.0 fs)
         go [] s h = clash (cc)
-        go (f ∷ fs) s h = cc s.0
+        go (f ∷ fs) s h = ap Err (limit-is f p s.0 (cc))
 
     pub within : u ≡ Ok tt → Ok tt ≡ reading_of (judge_table l)
     within z = rw limits-judged (go (limits r.0) (sym z ∙ k r.0 r.1))

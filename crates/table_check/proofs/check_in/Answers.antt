@@ -20,4 +20,4 @@ pub returns-in-Ok : goal.returns-in-Ok
 returns-in-Ok c = (accepts _ (sym (ap told c.in-Ok.is) ∙ c.judged.ensures.0), rw c.in-Ok.is at c.judged.ensures.1)
 
 pub returns-in-Err : goal.returns-in-Err
-returns-in-Err c = (refused (goal.at.returns-in-Err c).In-Err, tt)
+returns-in-Err c = (rw (c.number.ensures, c.place.ensures) (refused (goal.at.returns-in-Err c).In-Err), tt)
