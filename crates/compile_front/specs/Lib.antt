@@ -8,4 +8,4 @@ pub mod Leaves
 pub mod Records
 pub mod Lengths
 pub mod Top
-pub mod Declared
+pub mod Globals

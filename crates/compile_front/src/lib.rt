@@ -19,6 +19,15 @@ ghost use Rattle.compile_front.specs.Front.{classes_front, variables_front, proc
 use formats::compiled::*;
 use formats::entries::*;
 
+// What the front is read from: the table, the sizes of its entries, what its definitions stand for, and how many declarations its root has.
+#[derive(Clone, Copy)]
+struct Source<'a> {
+    table: &'a [u8],
+    sizes: &'a [u16],
+    known: &'a [u32],
+    count: usize,
+}
+
 // How many types the entries from a place to another have: each is one byte of a CL or BD record. A case has one, and a for three.
 fn typed_in(table: &[u8], from: usize, to: usize) -> usize
     requires { (from ≤ to) × (to ≤ length table.now / 8) }
@@ -54,89 +63,65 @@ fn put_same(ty: u8, count: usize, out: &mut [u8], from: usize) -> usize
 }
 
 // The byte of an entry's type, for each of its cells.
-fn put_type(table: &[u8], i: usize, known: &[u32], out: &mut [u8], at: usize) -> usize
-    requires { TypesKnown table.now known.now × (1 ≤ i) × (i < length table.now / 8) × (at + length (type_at table.now i) ≤ length out.old) }
-    ensures { Wrote out.old at (type_at table.now i) out.new result }
+fn put_type(source: &Source, i: usize, out: &mut [u8], at: usize) -> usize
+    requires { TypesKnown source.now.table.now source.now.known.now × (1 ≤ i) × (i < length source.now.table.now / 8)
+        × (at + length (type_at source.now.table.now i) ≤ length out.old) }
+    ensures { Wrote out.old at (type_at source.now.table.now i) out.new result }
 {
-    let cells = compile_symbols::cells_of(table_entries::kind_at(table, i));
-    put_same(compile_symbols::type_in(known[i]), cells, out, at)
+    let cells = compile_symbols::cells_of(table_entries::kind_at(source.table, i));
+    put_same(compile_symbols::type_in(source.known[i]), cells, out, at)
 }
 
 // Of the entries from a place to another.
-fn put_types(
-    table: &[u8],
-    from: usize,
-    to: usize,
-    known: &[u32],
-    out: &mut [u8],
-    at: usize,
-) -> usize
-    requires { TypesKnown table.now known.now × (1 ≤ from) × (from ≤ to) × (to ≤ length table.now / 8) × (at + length (types_between table.now from to) ≤ length out.old) }
-    ensures { Wrote out.old at (types_between table.now from to) out.new result }
+fn put_types(source: &Source, from: usize, to: usize, out: &mut [u8], at: usize) -> usize
+    requires { TypesKnown source.now.table.now source.now.known.now × (1 ≤ from) × (from ≤ to) × (to ≤ length source.now.table.now / 8)
+        × (at + length (types_between source.now.table.now from to) ≤ length out.old) }
+    ensures { Wrote out.old at (types_between source.now.table.now from to) out.new result }
 {
     let mut place = at;
     for i in from..to {
-        place = put_type(table, i, known, out, place);
+        place = put_type(source, i, out, place);
     }
     place
 }
 
 // ── classes ──
 // A class with the entries of its fields up to another place.
-fn put_class(
-    table: &[u8],
-    place: usize,
-    end: usize,
-    known: &[u32],
-    out: &mut [u8],
-    at: usize,
-) -> usize
-    requires { TypesKnown table.now known.now × (place < end) × (end ≤ length table.now / 8) × (end ≤ place + 256)
-        × (at + (3 + length (types_between table.now (place + 1) end)) ≤ length out.old) }
-    ensures { Wrote out.old at (67 ∷ 76 ∷ (end - (place + 1)) ∷ types_between table.now (place + 1) end) out.new result }
+fn put_class(source: &Source, place: usize, end: usize, out: &mut [u8], at: usize) -> usize
+    requires { TypesKnown source.now.table.now source.now.known.now × (place < end) × (end ≤ length source.now.table.now / 8) × (end ≤ place + 256)
+        × (at + (3 + length (types_between source.now.table.now (place + 1) end)) ≤ length out.old) }
+    ensures { Wrote out.old at (67 ∷ 76 ∷ (end - (place + 1)) ∷ types_between source.now.table.now (place + 1) end) out.new result }
 {
     out[at] = b'C';
     out[at + 1] = b'L';
     out[at + FIELD_COUNT_AT] = (end - (place + 1)) as u8;
-    put_types(table, place + 1, end, known, out, at + CLASS_BYTES)
+    put_types(source, place + 1, end, out, at + CLASS_BYTES)
 }
 
 // A declaration of the root, if it is a class.
-fn put_if_class(
-    table: &[u8],
-    sizes: &[u16],
-    place: usize,
-    known: &[u32],
-    out: &mut [u8],
-    at: usize,
-) -> usize
-    requires { TypesKnown table.now known.now × Within table.now sizes.now place
-        × (half_at table.now (8 * place) ≡ 11 → get_or sizes.now place 0 ≤ 256) × (at + length (class_at table.now sizes.now place) ≤ length out.old) }
-    ensures { Wrote out.old at (class_at table.now sizes.now place) out.new result }
+fn put_if_class(source: &Source, place: usize, out: &mut [u8], at: usize) -> usize
+    requires { TypesKnown source.now.table.now source.now.known.now × Within source.now.table.now source.now.sizes.now place
+        × (half_at source.now.table.now (8 * place) ≡ 11 → get_or source.now.sizes.now place 0 ≤ 256)
+        × (at + length (class_at source.now.table.now source.now.sizes.now place) ≤ length out.old) }
+    ensures { Wrote out.old at (class_at source.now.table.now source.now.sizes.now place) out.new result }
 {
-    if table_entries::kind_at(table, place) == KIND_CLASS {
-        let end = place + table_scopes::size_at(sizes, place);
-        return put_class(table, place, end, known, out, at);
+    if table_entries::kind_at(source.table, place) == KIND_CLASS {
+        let end = place + table_scopes::size_at(source.sizes, place);
+        return put_class(source, place, end, out, at);
     }
     at
 }
 
-fn put_classes(
-    table: &[u8],
-    count: usize,
-    sizes: &[u16],
-    known: &[u32],
-    out: &mut [u8],
-    from: usize,
-) -> usize
-    requires { Headed table.now sizes.now count × TypesKnown table.now known.now × (from + length (classes_front table.now) ≤ length out.old) }
-    ensures { Wrote out.old from (classes_front table.now) out.new result }
+fn put_classes(source: &Source, out: &mut [u8], from: usize) -> usize
+    requires { Headed source.now.table.now source.now.sizes.now source.now.count × TypesKnown source.now.table.now source.now.known.now
+        × (from + length (classes_front source.now.table.now) ≤ length out.old) }
+    ensures { Wrote out.old from (classes_front source.now.table.now) out.new result }
 {
     let mut place = 1;
     let mut at = from;
-    for i in 0..count {
-        at = put_if_class(table, sizes, place, known, out, at);
-        place += table_scopes::size_at(sizes, place);
+    for i in 0..source.count {
+        at = put_if_class(source, place, out, at);
+        place += table_scopes::size_at(source.sizes, place);
     }
     at
 }
@@ -156,63 +141,48 @@ fn put_body(out: &mut [u8], at: usize, first: u16, parameters: u8, res: u8, cell
 }
 
 // The types of the root's variables.
-fn put_variables(
-    table: &[u8],
-    count: usize,
-    sizes: &[u16],
-    known: &[u32],
-    out: &mut [u8],
-    from: usize,
-) -> usize
-    requires { Headed table.now sizes.now count × TypesKnown table.now known.now × (from + length (variables_front table.now) ≤ length out.old) }
-    ensures { Wrote out.old from (variables_front table.now) out.new result }
+fn put_variables(source: &Source, out: &mut [u8], from: usize) -> usize
+    requires { Headed source.now.table.now source.now.sizes.now source.now.count × TypesKnown source.now.table.now source.now.known.now
+        × (from + length (variables_front source.now.table.now) ≤ length out.old) }
+    ensures { Wrote out.old from (variables_front source.now.table.now) out.new result }
 {
     let mut place = 1;
     let mut at = from;
-    for i in 0..count {
-        at = put_type(table, place, known, out, at);
-        place += table_scopes::size_at(sizes, place);
+    for i in 0..source.count {
+        at = put_type(source, place, out, at);
+        place += table_scopes::size_at(source.sizes, place);
     }
     at
 }
 
 // The root, whose items begin at the entry `after`.
-fn put_root(
-    table: &[u8],
-    count: usize,
-    after: usize,
-    sizes: &[u16],
-    known: &[u32],
-    out: &mut [u8],
-    at: usize,
-) -> usize
-    requires { Headed table.now sizes.now count × TypesKnown table.now known.now × (after ≡ after_head table.now)
-        × (length (root_types table.now) ≤ 255) × (at + (7 + length (root_types table.now)) ≤ length out.old) }
-    ensures { Wrote out.old at (body_of 0 0 0 (root_types table.now)) out.new result }
+fn put_root(source: &Source, after: usize, out: &mut [u8], at: usize) -> usize
+    requires { Headed source.now.table.now source.now.sizes.now source.now.count × TypesKnown source.now.table.now source.now.known.now × (after ≡ after_head source.now.table.now)
+        × (length (root_types source.now.table.now) ≤ 255) × (at + (7 + length (root_types source.now.table.now)) ≤ length out.old) }
+    ensures { Wrote out.old at (body_of 0 0 0 (root_types source.now.table.now)) out.new result }
 {
-    let types = put_variables(table, count, sizes, known, out, at + BODY_BYTES);
-    let end = put_types(table, after, table.len() / ENTRY_BYTES, known, out, types);
+    let types = put_variables(source, out, at + BODY_BYTES);
+    let end = put_types(source, after, source.table.len() / ENTRY_BYTES, out, types);
     put_body(out, at, 0, 0, 0, (end - at - BODY_BYTES) as u8);
     end
 }
 
 // A procedure with its entries up to another place.
 fn put_procedure(
-    table: &[u8],
+    source: &Source,
     place: usize,
     end: usize,
     first: u16,
-    known: &[u32],
     out: &mut [u8],
     at: usize,
 ) -> usize
-    requires { TypesKnown table.now known.now × (place < end) × (end ≤ length table.now / 8) × (word_at table.now (8 * place + 4) < 65536)
-        × (length (types_between table.now (place + 1) end) ≤ 255) × (at + (7 + length (types_between table.now (place + 1) end)) ≤ length out.old) }
-    ensures { Wrote out.old at (body_of first (word_at table.now (8 * place + 4) / 256)
-        (word_at table.now (8 * place + 4) % 256) (types_between table.now (place + 1) end)) out.new result }
+    requires { TypesKnown source.now.table.now source.now.known.now × (place < end) × (end ≤ length source.now.table.now / 8) × (word_at source.now.table.now (8 * place + 4) < 65536)
+        × (length (types_between source.now.table.now (place + 1) end) ≤ 255) × (at + (7 + length (types_between source.now.table.now (place + 1) end)) ≤ length out.old) }
+    ensures { Wrote out.old at (body_of first (word_at source.now.table.now (8 * place + 4) / 256)
+        (word_at source.now.table.now (8 * place + 4) % 256) (types_between source.now.table.now (place + 1) end)) out.new result }
 {
-    let heading = table_entries::b_at(table, place);
-    let last = put_types(table, place + 1, end, known, out, at + BODY_BYTES);
+    let heading = table_entries::b_at(source.table, place);
+    let last = put_types(source, place + 1, end, out, at + BODY_BYTES);
     put_body(
         out,
         at,
@@ -226,23 +196,15 @@ fn put_procedure(
 
 // A declaration of the root, if it is a procedure.
 // Kept (point 2) beside put_if_class: one function of both would take each record's writer and what it asks of its declaration, for one line that they share.
-fn put_if_procedure(
-    table: &[u8],
-    sizes: &[u16],
-    place: usize,
-    first: u16,
-    known: &[u32],
-    out: &mut [u8],
-    at: usize,
-) -> usize
-    requires { TypesKnown table.now known.now × Within table.now sizes.now place
-        × (half_at table.now (8 * place) ≡ 12 → Brief table.now (part_at table.now sizes.now place))
-        × (at + length (body_at table.now sizes.now place first) ≤ length out.old) }
-    ensures { Wrote out.old at (body_at table.now sizes.now place first) out.new result }
+fn put_if_procedure(source: &Source, place: usize, first: u16, out: &mut [u8], at: usize) -> usize
+    requires { TypesKnown source.now.table.now source.now.known.now × Within source.now.table.now source.now.sizes.now place
+        × (half_at source.now.table.now (8 * place) ≡ 12 → Brief source.now.table.now (part_at source.now.table.now source.now.sizes.now place))
+        × (at + length (body_at source.now.table.now source.now.sizes.now place first) ≤ length out.old) }
+    ensures { Wrote out.old at (body_at source.now.table.now source.now.sizes.now place first) out.new result }
 {
-    if table_entries::kind_at(table, place) == KIND_PROCEDURE {
-        let end = place + table_scopes::size_at(sizes, place);
-        return put_procedure(table, place, end, first, known, out, at);
+    if table_entries::kind_at(source.table, place) == KIND_PROCEDURE {
+        let end = place + table_scopes::size_at(source.sizes, place);
+        return put_procedure(source, place, end, first, out, at);
     }
     at
 }
@@ -260,25 +222,18 @@ fn next_first(table: &[u8], place: usize, ends: &[u16], first: u16) -> u16
 }
 
 // Each begins where the body before it ends; the root's end is that of entry 0.
-fn put_procedures(
-    table: &[u8],
-    count: usize,
-    sizes: &[u16],
-    known: &[u32],
-    ends: &[u16],
-    out: &mut [u8],
-    from: usize,
-) -> usize
-    requires { Headed table.now sizes.now count × TypesKnown table.now known.now × Ended table.now ends.now × (from + length (procs_front table.now) ≤ length out.old) }
-    ensures { Wrote out.old from (procs_front table.now) out.new result }
+fn put_procedures(source: &Source, ends: &[u16], out: &mut [u8], from: usize) -> usize
+    requires { Headed source.now.table.now source.now.sizes.now source.now.count × TypesKnown source.now.table.now source.now.known.now
+        × Ended source.now.table.now ends.now × (from + length (procs_front source.now.table.now) ≤ length out.old) }
+    ensures { Wrote out.old from (procs_front source.now.table.now) out.new result }
 {
     let mut place = 1;
     let mut first = ends[0];
     let mut at = from;
-    for i in 0..count {
-        at = put_if_procedure(table, sizes, place, first, known, out, at);
-        first = next_first(table, place, ends, first);
-        place += table_scopes::size_at(sizes, place);
+    for i in 0..source.count {
+        at = put_if_procedure(source, place, first, out, at);
+        first = next_first(source.table, place, ends, first);
+        place += table_scopes::size_at(source.sizes, place);
     }
     at
 }
@@ -315,6 +270,12 @@ pub fn put(
     ensures { (t : Tree) → Fronted t table.now count after sizes.now known.now
         ends.now classes bodies instructions shapes (length out.old) → Wrote out.old 0 (front (compiled t)) out.new result }
 {
+    let source = Source {
+        table,
+        sizes,
+        known,
+        count,
+    };
     put_header(
         out,
         classes as u8,
@@ -322,7 +283,7 @@ pub fn put(
         instructions as u16,
         shapes as u16,
     );
-    let root = put_classes(table, count, sizes, known, out, HEAD_BYTES);
-    let procedures = put_root(table, count, after, sizes, known, out, root);
-    put_procedures(table, count, sizes, known, ends, out, procedures)
+    let root = put_classes(&source, out, HEAD_BYTES);
+    let procedures = put_root(&source, after, out, root);
+    put_procedures(&source, ends, out, procedures)
 }

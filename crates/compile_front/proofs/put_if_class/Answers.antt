@@ -33,7 +33,7 @@ put_class-requires c =
       omega (
         arith,
         c.requires.3,
-        ap length (class-part c.args.table.now c.args.sizes.now c.args.place
+        ap length (class-part c.args.source.now.table.now c.args.source.now.sizes.now c.args.place
             c.requires.1 (c.args.place + c.size_at.result)
             (ap (λ (m : ℕ). c.args.place + m) c.size_at.ensures) (sym c.kind_at.ensures ∙ c.if-kind_at-eq-KIND_CLASS.true)),
       ),
@@ -44,11 +44,11 @@ shape_of-out-then-kind_at-eq-KIND_CLASS c = wrote-long c.put_class.ensures
 
 pub returns-then-kind_at-eq-KIND_CLASS : goal.returns-then-kind_at-eq-KIND_CLASS
 returns-then-kind_at-eq-KIND_CLASS c =
-    wrote_as c.put_class.ensures (sym (class-part c.args.table.now c.args.sizes.now
+    wrote_as c.put_class.ensures (sym (class-part c.args.source.now.table.now c.args.source.now.sizes.now
     c.args.place c.requires.1 (c.args.place + c.size_at.result)
     (ap (λ (m : ℕ). c.args.place + m) c.size_at.ensures) (sym c.kind_at.ensures ∙ c.if-kind_at-eq-KIND_CLASS.true)))
 
 pub returns : goal.returns
 returns c =
-    wrote_as (wrote_nothing _ _) (sym (class-no c.args.table.now c.args.sizes.now c.args.place
+    wrote_as (wrote_nothing _ _) (sym (class-no c.args.source.now.table.now c.args.source.now.sizes.now c.args.place
     c.requires.1 _ refl (λ e. c.if-kind_at-eq-KIND_CLASS.false (c.kind_at.ensures ∙ e))))

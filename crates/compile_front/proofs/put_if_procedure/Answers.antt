@@ -21,7 +21,7 @@ overflow_add-end c =
 
 pub put_procedure-requires : goal.put_procedure-requires
 put_procedure-requires c =
-    let w = c.requires.1 in let b = brief-part c.args.table.now c.args.sizes.now c.args.place
+    let w = c.requires.1 in let b = brief-part c.args.source.now.table.now c.args.source.now.sizes.now c.args.place
     c.requires.1 (c.args.place + c.size_at.result)
     (ap (λ (m : ℕ). c.args.place + m) c.size_at.ensures) c.requires.0.bytes
     (c.requires.2 (sym c.kind_at.ensures ∙ c.if-kind_at-eq-KIND_PROCEDURE.true)) in (
@@ -33,7 +33,7 @@ put_procedure-requires c =
       omega (
         arith,
         c.requires.3,
-        ap length (body-part c.args.table.now c.args.sizes.now c.args.place
+        ap length (body-part c.args.source.now.table.now c.args.source.now.sizes.now c.args.place
             c.requires.1 (c.args.place + c.size_at.result)
             (ap (λ (m : ℕ). c.args.place + m) c.size_at.ensures) c.requires.0.bytes c.args.first
             (sym c.kind_at.ensures ∙ c.if-kind_at-eq-KIND_PROCEDURE.true)),
@@ -45,12 +45,12 @@ shape_of-out-then-kind_at-eq-KIND_PROCEDURE c = wrote-long c.put_procedure.ensur
 
 pub returns-then-kind_at-eq-KIND_PROCEDURE : goal.returns-then-kind_at-eq-KIND_PROCEDURE
 returns-then-kind_at-eq-KIND_PROCEDURE c =
-    wrote_as c.put_procedure.ensures (sym (body-part c.args.table.now c.args.sizes.now
+    wrote_as c.put_procedure.ensures (sym (body-part c.args.source.now.table.now c.args.source.now.sizes.now
     c.args.place c.requires.1 (c.args.place + c.size_at.result)
     (ap (λ (m : ℕ). c.args.place + m) c.size_at.ensures) c.requires.0.bytes c.args.first
     (sym c.kind_at.ensures ∙ c.if-kind_at-eq-KIND_PROCEDURE.true)))
 
 pub returns : goal.returns
 returns c =
-    wrote_as (wrote_nothing _ _) (sym (body-no c.args.table.now c.args.sizes.now c.args.place
+    wrote_as (wrote_nothing _ _) (sym (body-no c.args.source.now.table.now c.args.source.now.sizes.now c.args.place
     c.requires.1 _ refl c.args.first (λ e. c.if-kind_at-eq-KIND_PROCEDURE.false (c.kind_at.ensures ∙ e))))

@@ -43,5 +43,5 @@ returns c =
     wrote_as (body-wrote c.args.first (c.b_at-heading.result / 256) (c.b_at-heading.result % 256)
     (c.put_types-last.result - c.args.at - 7) c.put_types-last.ensures c.put_body.ensures
     (omega (arith, c.put_types-last.ensures.ends))) (ap (λ (w : ℕ).
-    body_of c.args.first (w / 256) (w % 256) (types_of (classes_in c.args.table.now)
-    (between (c.args.place + 1) c.args.end (entries_of c.args.table.now)) [])) c.b_at-heading.ensures)
+    body_of c.args.first (w / 256) (w % 256) (types_of (classes_in c.args.source.now.table.now)
+    (between (c.args.place + 1) c.args.end (entries_of c.args.source.now.table.now)) [])) c.b_at-heading.ensures)

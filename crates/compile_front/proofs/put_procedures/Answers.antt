@@ -1,11 +1,11 @@
--- The loop's invariant, ProcsWriting: what is left to write for the procedures, and where the next one begins (specs/Declared).
+-- The loop's invariant, ProcsWriting: what is left to write for the procedures, and where the next one begins (specs/Globals).
 use mathlib.Core.Path.{◌≡◌}
 use native.Mathlib.Nat.{sub-zero}
 use Prim.Native.Nat.{◌+◌, ◌-◌}
 use Rattle.compile_symbols.specs.Whole.{table-some}
 use mathlib.Core.Path.{refl}
 use native.Mathlib.Omega.{arith}
-use Rattle.compile_front.specs.Declared.{procs-start, procs-within, procs-brief, procs-room, procs-next, procs-end}
+use Rattle.compile_front.specs.Globals.{procs-start, procs-within, procs-brief, procs-room, procs-next, procs-end}
 use Rattle.compile_symbols.specs.Tabled.{entries-few}
 use Rattle.compile_front.proofs.put_procedures.Goals as goal
 
@@ -15,7 +15,7 @@ bounds-ends-0 c =
 
 pub loop-i-init : goal.loop-i-init
 loop-i-init c =
-    rw (sub-zero c.args.count) (procs-start _ _ _ c.requires.0 c.requires.2 refl)
+    rw (sub-zero c.args.source.now.count) (procs-start _ _ _ c.requires.0 c.requires.2 refl)
 
 pub put_if_procedure-at-requires : goal.put_if_procedure-at-requires
 put_if_procedure-at-requires c =
@@ -41,7 +41,7 @@ overflow_add-place c =
 
 pub loop-i-preserved : goal.loop-i-preserved
 loop-i-preserved c =
-    let fewer : c.args.count - (c.loop-i.i + 1) ≡ c.args.count - c.loop-i.i - 1 = omega arith in
+    let fewer : c.args.source.now.count - (c.loop-i.i + 1) ≡ c.args.source.now.count - c.loop-i.i - 1 = omega arith in
     rw fewer (procs-next c.requires.0.tabled c.loop-i.invariant c.put_if_procedure-at.ensures c.next_first-first.ensures c.size_at-place.ensures (omega arith))
 
 pub shape_of-out : goal.shape_of-out

@@ -10,13 +10,13 @@ put_same-requires c =
     omega (
       arith,
       c.requires.3,
-      type-room c.args.table.now c.args.known.now c.args.i c.type_in.result c.requires.0 c.requires.1
+      type-room c.args.source.now.table.now c.args.source.now.known.now c.args.i c.type_in.result c.requires.0 c.requires.1
           c.requires.2 c.type_in.ensures c.cells_of-cells.result
           (c.cells_of-cells.ensures ∙ ap cells_of_kind c.kind_at.ensures),
     )
 
 pub returns : goal.returns
 returns c =
-    put-cells c.args.table.now c.args.known.now c.args.i c.type_in.result c.requires.0 c.requires.1
+    put-cells c.args.source.now.table.now c.args.source.now.known.now c.args.i c.type_in.result c.requires.0 c.requires.1
     c.requires.2 c.type_in.ensures c.cells_of-cells.result
     (c.cells_of-cells.ensures ∙ ap cells_of_kind c.kind_at.ensures) c.put_same.ensures

@@ -1,8 +1,8 @@
 use Prim.Native.Nat.{◌-◌}
-use Rattle.compile_front.specs.Declared.{HeadWriting}
+use Rattle.compile_front.specs.Globals.{HeadWriting}
 use Rattle.compile_front.specs.Front.{variables_from}
 use Rattle.compile_symbols.specs.Tabled.{the_tree}
 use Rattle.compile_front.proofs.put_variables.Given as goal
 
 abbrev pub invariant-loop-i : goal.invariant-loop-i
-invariant-loop-i l = HeadWriting (variables_from (the_tree l.table)) l.table l.initial.out l.from l.out l.place (l.count - l.i) l.at
+invariant-loop-i l = HeadWriting (variables_from (the_tree l.source.table.now)) l.source.table.now l.initial.out l.from l.out l.place (l.source.count - l.i) l.at
