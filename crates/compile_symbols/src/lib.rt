@@ -19,6 +19,14 @@ ghost use Rattle.compile_symbols.specs.Meaning.{meaning_of};
 
 use formats::entries::*;
 
+// A table, the sizes of its entries, and how many declarations its root has.
+#[derive(Clone, Copy)]
+struct Rooted<'a> {
+    table: &'a [u8],
+    sizes: &'a [u16],
+    count: usize,
+}
+
 // ── one number of three ──
 pub fn pack(ty: u32, a: u32, b: u32) -> u32
     requires { packed ty a b < 4294967296 }
@@ -81,51 +89,44 @@ pub fn one_if(kind: u16, wanted: u16) -> usize
 }
 
 // How many classes stand before the one of this name.
-fn class_number(table: &[u8], count: usize, sizes: &[u16], name: u32) -> usize
-    requires { Headed table.now sizes.now count }
-    ensures { result ≡ index_of name (classes_in table.now) }
+fn class_number(root: &Rooted, name: u32) -> usize
+    requires { Headed root.now.table.now root.now.sizes.now root.now.count }
+    ensures { result ≡ index_of name (classes_in root.now.table.now) }
 {
     let mut place = 1;
     let mut n = 0;
-    for i in 0..count {
-        if names_class(table, place, name) {
+    for i in 0..root.count {
+        if names_class(root.table, place, name) {
             return n;
         }
-        n += one_if(table_entries::kind_at(table, place), KIND_CLASS);
-        place += table_scopes::size_at(sizes, place);
+        n += one_if(table_entries::kind_at(root.table, place), KIND_CLASS);
+        place += table_scopes::size_at(root.sizes, place);
     }
     n
 }
 
 // The byte of a declared type.
-fn type_byte(table: &[u8], count: usize, sizes: &[u16], ty: u32) -> u32
-    requires { Headed table.now sizes.now count }
-    ensures { result ≡ byte_of (classes_in table.now) ty }
+fn type_byte(root: &Rooted, ty: u32) -> u32
+    requires { Headed root.now.table.now root.now.sizes.now root.now.count }
+    ensures { result ≡ byte_of (classes_in root.now.table.now) ty }
 {
     if ty < 65536 {
         ty
     } else {
-        16 + class_number(table, count, sizes, ty - 65536) as u32
+        16 + class_number(root, ty - 65536) as u32
     }
 }
 
 // ── cells ──
 // An entry before which there are so many cells of the owner: a body, or a class of which it is a field.
-fn entry_known(
-    table: &[u8],
-    count: usize,
-    sizes: &[u16],
-    place: usize,
-    owner: usize,
-    cell: usize,
-) -> u32
-    requires { Headed table.now sizes.now count × (place < length table.now / 8) × (owner ≤ 2048) × (cell ≤ 6144) }
-    ensures { result ≡ number_of (classes_in table.now) owner cell (entry_at table.now place) }
+fn entry_known(root: &Rooted, place: usize, owner: usize, cell: usize) -> u32
+    requires { Headed root.now.table.now root.now.sizes.now root.now.count × (place < length root.now.table.now / 8) × (owner ≤ 2048) × (cell ≤ 6144) }
+    ensures { result ≡ number_of (classes_in root.now.table.now) owner cell (entry_at root.now.table.now place) }
 {
-    let kind = table_entries::kind_at(table, place);
+    let kind = table_entries::kind_at(root.table, place);
     match kind {
         KIND_DECLARE => pack(
-            type_byte(table, count, sizes, table_entries::b_at(table, place)),
+            type_byte(root, table_entries::b_at(root.table, place)),
             owner as u32,
             cell as u32,
         ),
@@ -148,22 +149,21 @@ pub fn cells_of(kind: u16) -> usize
 
 // The entries of a body, or the fields of a class, from a place to another.
 fn number_cells(
-    table: &[u8],
-    count: usize,
-    sizes: &[u16],
+    root: &Rooted,
     from: usize,
     to: usize,
     owner: usize,
     first: usize,
     known: &mut [u32],
 )
-    requires { Headed table.now sizes.now count × (from ≤ to) × (to ≤ length table.now / 8) × (to ≤ length known.old) × (owner ≤ 2048) × (first ≤ 3 * from) }
-    ensures { known.new ≡ sets known.old from (numbers_owned (classes_in table.now) owner first (between from to (entries_of table.now))) }
+    requires { Headed root.now.table.now root.now.sizes.now root.now.count × (from ≤ to) × (to ≤ length root.now.table.now / 8)
+        × (to ≤ length known.old) × (owner ≤ 2048) × (first ≤ 3 * from) }
+    ensures { known.new ≡ sets known.old from (numbers_owned (classes_in root.now.table.now) owner first (between from to (entries_of root.now.table.now))) }
 {
     let mut cell = first;
     for place in from..to {
-        known[place] = entry_known(table, count, sizes, place, owner, cell);
-        cell += cells_of(table_entries::kind_at(table, place));
+        known[place] = entry_known(root, place, owner, cell);
+        cell += cells_of(table_entries::kind_at(root.table, place));
     }
 }
 
@@ -190,32 +190,29 @@ fn counted(kind: u16, n: Numbers) -> Numbers
 }
 
 // The entries of a declaration.
-fn number_global(
-    table: &[u8],
-    count: usize,
-    sizes: &[u16],
-    place: usize,
-    n: Numbers,
-    known: &mut [u32],
-)
-    requires { Headed table.now sizes.now count × Within table.now sizes.now place × (length table.now / 8 ≤ length known.old)
+fn number_global(root: &Rooted, place: usize, n: Numbers, known: &mut [u32])
+    requires { Headed root.now.table.now root.now.sizes.now root.now.count × Within root.now.table.now root.now.sizes.now place × (length root.now.table.now / 8 ≤ length known.old)
         × (n.cells ≤ 6144) × (n.classes ≤ 2048) × (n.bodies ≤ 2048) }
-    ensures { known.new ≡ sets known.old place (numbers_global (classes_in table.now) n (part_at table.now sizes.now place)) }
+    ensures { known.new ≡ sets known.old place (numbers_global (classes_in root.now.table.now) n (part_at root.now.table.now root.now.sizes.now place)) }
 {
-    let end = place + table_scopes::size_at(sizes, place);
-    let kind = table_entries::kind_at(table, place);
+    let end = place + table_scopes::size_at(root.sizes, place);
+    let kind = table_entries::kind_at(root.table, place);
     match kind {
         KIND_CLASS => {
             let class = n.classes;
             known[place] = pack(16 + class as u32, class as u32, 0);
-            number_cells(table, count, sizes, place + 1, end, class, 0, known);
+            number_cells(root, place + 1, end, class, 0, known);
         }
         KIND_PROCEDURE => {
-            known[place] = pack(table_entries::b_at(table, place) % 256, 0, n.bodies as u32);
-            number_cells(table, count, sizes, place + 1, end, 0, 0, known);
+            known[place] = pack(
+                table_entries::b_at(root.table, place) % 256,
+                0,
+                n.bodies as u32,
+            );
+            number_cells(root, place + 1, end, 0, 0, known);
         }
         _ => {
-            known[place] = entry_known(table, count, sizes, place, 1, n.cells);
+            known[place] = entry_known(root, place, 1, n.cells);
         }
     }
 }
@@ -225,6 +222,11 @@ pub fn number_all(table: &[u8], count: usize, sizes: &[u16], known: &mut [u32]) 
     requires { Holding table.now sizes.now count × (length table.now / 8 ≤ length known.old) }
     ensures { (t : Tree) → Tabled table.now sizes.now t → Numbered t known.old known.new result }
 {
+    let root = Rooted {
+        table,
+        sizes,
+        count,
+    };
     let mut place = 1;
     let mut n = Numbers {
         cells: 0,
@@ -232,19 +234,10 @@ pub fn number_all(table: &[u8], count: usize, sizes: &[u16], known: &mut [u32]) 
         bodies: 1,
     };
     for i in 0..count {
-        number_global(table, count, sizes, place, n, known);
+        number_global(&root, place, n, known);
         n = counted(table_entries::kind_at(table, place), n);
         place += table_scopes::size_at(sizes, place);
     }
-    number_cells(
-        table,
-        count,
-        sizes,
-        place,
-        table.len() / ENTRY_BYTES,
-        0,
-        n.cells,
-        known,
-    );
+    number_cells(&root, place, table.len() / ENTRY_BYTES, 0, n.cells, known);
     n
 }

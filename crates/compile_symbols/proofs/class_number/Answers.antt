@@ -9,7 +9,7 @@ use Rattle.compile_symbols.proofs.class_number.Goals as goal
 
 pub loop-i-init : goal.loop-i-init
 loop-i-init c =
-    rw (sub-zero c.args.count) (class-start c.args.name c.requires)
+    rw (sub-zero c.args.root.now.count) (class-start c.args.name c.requires)
 
 pub names_class-requires : goal.names_class-requires
 names_class-requires c =
@@ -41,7 +41,7 @@ overflow_add-place c =
 
 pub loop-i-preserved : goal.loop-i-preserved
 loop-i-preserved c =
-    let fewer : c.args.count - (c.loop-i.i + 1) ≡ c.args.count - c.loop-i.i - 1 = omega arith in
+    let fewer : c.args.root.now.count - (c.loop-i.i + 1) ≡ c.args.root.now.count - c.loop-i.i - 1 = omega arith in
     rw fewer (class-next c.requires.tabled c.loop-i.invariant c.one_if-n.result c.size_at-place.result (omega arith)
     (sym c.names_class.ensures ∙ c.if-names_class.false)
     (c.one_if-n.ensures ∙ ap (λ (k : ℕ). one_if k 11) c.kind_at.ensures) c.size_at-place.ensures)

@@ -49,8 +49,8 @@ shape_of-known-in-11 c = ap length c.number_cells.ensures ∙ simp (length-sets,
 
 pub returns-in-11 : goal.returns-in-11
 returns-in-11 c =
-    global-class c.args.table.now c.args.sizes.now c.args.place c.requires.1
-    (classes_in c.args.table.now) c.args.known.now c.args.n _ c.pack.result _
+    global-class c.args.root.now.table.now c.args.root.now.sizes.now c.args.place c.requires.1
+    (classes_in c.args.root.now.table.now) c.args.known.now c.args.n _ c.pack.result _
     (sym c.kind_at-kind.ensures ∙ c.in-11.is) (ap (λ (m : ℕ). c.args.place + m) c.size_at.ensures)
     c.pack.ensures c.number_cells.ensures
 
@@ -59,11 +59,11 @@ shape_of-known-in-12 c = ap length c.number_cells-in-12.ensures ∙ simp (length
 
 pub returns-in-12 : goal.returns-in-12
 returns-in-12 c =
-    global-procedure c.args.table.now
-    c.args.sizes.now
+    global-procedure c.args.root.now.table.now
+    c.args.root.now.sizes.now
     c.args.place
     c.requires.1
-    (classes_in c.args.table.now)
+    (classes_in c.args.root.now.table.now)
     c.args.known.now
     c.args.n _
     c.pack-in-12.result _ c.b_at.result
@@ -75,7 +75,7 @@ returns-in-12 c =
 
 pub returns-in_default : goal.returns-in_default
 returns-in_default c =
-    global-local c.args.table.now c.args.sizes.now c.args.place c.requires.1
-    (classes_in c.args.table.now) c.args.known.now c.args.n c.entry_known.result
+    global-local c.args.root.now.table.now c.args.root.now.sizes.now c.args.place c.requires.1
+    (classes_in c.args.root.now.table.now) c.args.known.now c.args.n c.entry_known.result
     (λ e. c.in_default.in_default-own.rest.0.1 (c.kind_at-kind.ensures ∙ e)) (λ e. c.in_default.in_default-own.rest.1 (c.kind_at-kind.ensures ∙ e))
     c.entry_known.ensures
