@@ -73,7 +73,7 @@ fn stands_at(
     holds: usize,
     depth: usize,
 ) -> bool
-    requires { (Stands at.now) × (Counted at.now.code.now of.now.state.now of.now.activations) × (of.now.records ≤ 256) × (k < of.now.activations) × (length stack.now ≡ 32) × (depth ≤ 32) }
+    requires { (Stands at.now) × (Counted at.now.code.now of.now.state.now of.now.activations) × (k < of.now.activations) × (length stack.now ≡ 32) × (depth ≤ 32) }
     ensures { result ≡ stands_in at.now.code.now of.now.state.now of.now.records of.now.activations k body holds (tops stack.now 0 depth) }
 {
     let state = of.state;
@@ -112,7 +112,7 @@ fn stands_if(
     holds: usize,
     depth: usize,
 ) -> bool
-    requires { (Stands at.now) × (Counted at.now.code.now of.now.state.now of.now.activations) × (of.now.records ≤ 256) × (k < of.now.activations) × (length stack.now ≡ 32) × (depth ≤ 32) }
+    requires { (Stands at.now) × (Counted at.now.code.now of.now.state.now of.now.activations) × (k < of.now.activations) × (length stack.now ≡ 32) × (depth ≤ 32) }
     ensures { result ≡ cond (eqb (address_in of.now.state.now k) address) (stands_in at.now.code.now of.now.state.now of.now.records of.now.activations k body holds
         (tops stack.now 0 depth)) true }
 {
@@ -133,7 +133,7 @@ fn all_stand(
     holds: usize,
     depth: usize,
 ) -> bool
-    requires { (Stands at.now) × (AnyCounted at.now.code.now of.now.state.now of.now.activations) × (of.now.records ≤ 256) × (length stack.now ≡ 32) × (depth ≤ 32) }
+    requires { (Stands at.now) × (AnyCounted at.now.code.now of.now.state.now of.now.activations) × (length stack.now ≡ 32) × (depth ≤ 32) }
     ensures { result ≡ each (λ k. cond (eqb (address_in of.now.state.now k) address) (stands_in at.now.code.now of.now.state.now of.now.records of.now.activations k body holds
         (tops stack.now 0 depth)) true) 0 of.now.activations }
 {
@@ -154,7 +154,7 @@ fn found_fits(
     stack: &[u8],
     flow: Moved,
 ) -> bool
-    requires { (Stands at.now) × (AnyCounted at.now.code.now of.now.state.now of.now.activations) × (of.now.records ≤ 256) × (length stack.now ≡ 32) × (Fit flow) }
+    requires { (Stands at.now) × (AnyCounted at.now.code.now of.now.state.now of.now.activations) × (length stack.now ≡ 32) × (Fit flow) }
     ensures { result ≡ standing at.now.code.now of.now.state.now of.now.records of.now.activations address body (flow_of flow stack.now) }
 {
     match flow {
@@ -208,7 +208,7 @@ fn look(
     ok: bool,
     next: usize,
 ) -> Wanted
-    requires { (Stands at.now) × (AnyCounted at.now.code.now of.now.state.now of.now.activations) × (of.now.records ≤ 256) × (length stack.now ≡ 32) × (Fit flow) × (address < 65536)
+    requires { (Stands at.now) × (AnyCounted at.now.code.now of.now.state.now of.now.activations) × (length stack.now ≡ 32) × (Fit flow) × (address < 65536)
         × (body ≡ body_of at.now.code.now address) × (flow_of flow stack.now ≡ found at.now.code.now address (into at.now.code.now address))
         × (Upto at.now.code.now of.now.state.now of.now.records of.now.activations address ok next) }
     ensures { broken at.now.code.now address ≡ false → Upto at.now.code.now of.now.state.now of.now.records of.now.activations (address + 1) result.ok result.next }
@@ -226,7 +226,7 @@ fn look(
 
 // Whether the activations fit where they stand; or the first address with a fault.
 fn walk_tests(at: &Located, of: &Numbered, stack: &mut [u8]) -> Result<bool, usize>
-    requires { (Stands at.now) × (length stack.old ≡ 32) × (AnyCounted at.now.code.now of.now.state.now of.now.activations) × (of.now.records ≤ 256) }
+    requires { (Stands at.now) × (length stack.old ≡ 32) × (AnyCounted at.now.code.now of.now.state.now of.now.activations) }
     ensures { Tests at.now.code.now of.now.state.now of.now.records of.now.activations result }
 {
     let code = at.code;

@@ -13,17 +13,19 @@ use formats::state::*;
 use formats::wide;
 use load_check::Located;
 
-// A state's bytes, and how many of its records and of its activations are to be tested.
+// A state's bytes, and how many of its records and of its activations are to be tested: no more than a state has room for.
 #[derive(Clone, Copy)]
 pub struct Numbered<'a> {
     pub state: &'a [u8],
     pub records: usize,
     pub activations: usize,
+    pub ghost small: { records ≤ 256 },
+    pub ghost few: { activations ≤ 32 },
 }
 
 // Whether w is null or one of the records, of the class of type t.
 fn points_to(of: &Numbered, t: usize, w: usize) -> bool
-    requires { (length of.now.state.now ≡ state_length) × (of.now.records ≤ 256) × (16 ≤ t) }
+    requires { (length of.now.state.now ≡ state_length) × (16 ≤ t) }
     ensures { result ≡ points_to of.now.state.now of.now.records t w }
 {
     if w == 0 {
@@ -38,7 +40,7 @@ fn points_to(of: &Numbered, t: usize, w: usize) -> bool
 
 // Whether the word w is a value of type t.
 fn value_fits(code: &[u8], of: &Numbered, t: usize, w: usize) -> bool
-    requires { (8 ≤ length code.now) × (length of.now.state.now ≡ state_length) × (of.now.records ≤ 256) }
+    requires { (8 ≤ length code.now) × (length of.now.state.now ≡ state_length) }
     ensures { result ≡ value_fits code.now of.now.state.now of.now.records t w }
 {
     let n = words::wide::byte_at(code, CLASS_COUNT_AT);
@@ -64,7 +66,7 @@ pub fn row_fits(
     w: usize,
     count: usize,
 ) -> bool
-    requires { (8 ≤ length code.now) × (length of.now.state.now ≡ state_length) × (of.now.records ≤ 256) × (place + count ≤ length row.now) × (t + count ≤ state_length) × (w + 4 * count ≤ state_length) }
+    requires { (8 ≤ length code.now) × (length of.now.state.now ≡ state_length) × (place + count ≤ length row.now) × (t + count ≤ state_length) × (w + 4 * count ≤ state_length) }
     ensures { result ≡ row_fits code.now of.now.state.now of.now.records row.now place t w count }
 {
     let mut ok = true;
@@ -80,7 +82,7 @@ pub fn row_fits(
 }
 
 fn record_fits(at: &Located, of: &Numbered, k: usize) -> bool
-    requires { (Stands at.now) × (length of.now.state.now ≡ state_length) × (of.now.records ≤ 256) × (k < 256) }
+    requires { (Stands at.now) × (length of.now.state.now ≡ state_length) × (k < 256) }
     ensures { result ≡ record_fits at.now.code.now of.now.state.now of.now.records k }
 {
     let code = at.code;
@@ -104,7 +106,7 @@ fn record_fits(at: &Located, of: &Numbered, k: usize) -> bool
 }
 
 fn records_fit(at: &Located, of: &Numbered) -> bool
-    requires { (Stands at.now) × (length of.now.state.now ≡ state_length) × (of.now.records ≤ 256) }
+    requires { (Stands at.now) × (length of.now.state.now ≡ state_length) }
     ensures { result ≡ each (record_fits at.now.code.now of.now.state.now of.now.records) 0 of.now.records }
 {
     let mut ok = true;
@@ -117,7 +119,7 @@ fn records_fit(at: &Located, of: &Numbered) -> bool
 
 // Whether activation k stands at a call of the next, if there is a next.
 fn calls_next(at: &Located, of: &Numbered, k: usize) -> bool
-    requires { (Stands at.now) × (length of.now.state.now ≡ state_length) × (of.now.activations ≤ 32) × (k < of.now.activations) × (address_in of.now.state.now k < count at.now.code.now) }
+    requires { (Stands at.now) × (length of.now.state.now ≡ state_length) × (k < of.now.activations) × (address_in of.now.state.now k < count at.now.code.now) }
     ensures { result ≡ calls at.now.code.now of.now.state.now of.now.activations k }
 {
     let j = k + 1;
@@ -136,7 +138,7 @@ fn calls_next(at: &Located, of: &Numbered, k: usize) -> bool
 }
 
 fn frame_fits(at: &Located, of: &Numbered, k: usize) -> bool
-    requires { (Stands at.now) × (length of.now.state.now ≡ state_length) × (of.now.records ≤ 256) × (of.now.activations ≤ 32) × (k < of.now.activations) }
+    requires { (Stands at.now) × (length of.now.state.now ≡ state_length) × (k < of.now.activations) }
     ensures { result ≡ frame_fits at.now.code.now of.now.state.now of.now.records of.now.activations k }
 {
     let code = at.code;
@@ -180,7 +182,7 @@ fn frame_fits(at: &Located, of: &Numbered, k: usize) -> bool
 }
 
 fn frames_fit(at: &Located, of: &Numbered) -> bool
-    requires { (Stands at.now) × (length of.now.state.now ≡ state_length) × (of.now.records ≤ 256) × (of.now.activations ≤ 32) }
+    requires { (Stands at.now) × (length of.now.state.now ≡ state_length) }
     ensures { result ≡ each (frame_fits at.now.code.now of.now.state.now of.now.records of.now.activations) 0 of.now.activations }
 {
     let mut ok = true;
@@ -193,7 +195,7 @@ fn frames_fit(at: &Located, of: &Numbered) -> bool
 
 // The open holds of all activations.
 fn open_holds(of: &Numbered) -> usize
-    requires { (length of.now.state.now ≡ state_length) × (of.now.activations ≤ 32) }
+    requires { length of.now.state.now ≡ state_length }
     ensures { result ≡ held of.now.state.now of.now.activations }
 {
     let mut sum: usize = 0;
@@ -223,32 +225,43 @@ fn groups_fit(state: &[u8], holds: usize) -> bool
     ok
 }
 
-fn running_fits(at: &Located, of: &Numbered, holds: usize) -> bool
-    requires { (Stands at.now) × (length of.now.state.now ≡ state_length) }
-    ensures { result ≡ running_fits at.now.code.now of.now.state.now of.now.activations of.now.records holds }
+fn running_fits(
+    at: &Located,
+    state: &[u8],
+    records: usize,
+    activations: usize,
+    holds: usize,
+) -> bool
+    requires { (Stands at.now) × (length state.now ≡ state_length) }
+    ensures { result ≡ running_fits at.now.code.now state.now activations records holds }
 {
-    if of.activations < 1 {
+    if activations < 1 {
         return false;
     }
-    if MAX_ACTIVATIONS < of.activations {
+    if MAX_ACTIVATIONS < activations {
         return false;
     }
-    if MAX_RECORDS < of.records {
+    if MAX_RECORDS < records {
         return false;
     }
-    if words::wide::byte_at(of.state, ACTIVATIONS_AT) != 0 {
+    let of = Numbered {
+        state,
+        records,
+        activations,
+    };
+    if words::wide::byte_at(state, ACTIVATIONS_AT) != 0 {
         return false;
     }
-    if open_holds(of) != holds {
+    if open_holds(&of) != holds {
         return false;
     }
-    if !groups_fit(of.state, holds) {
+    if !groups_fit(state, holds) {
         return false;
     }
-    if !records_fit(at, of) {
+    if !records_fit(at, &of) {
         return false;
     }
-    frames_fit(at, of)
+    frames_fit(at, &of)
 }
 
 fn is_end(x: u8) -> bool
@@ -269,14 +282,9 @@ pub fn plain_fits(at: &Located, state: &[u8]) -> bool
     let condition = state[CONDITION_AT];
     let h = words::wide::half_at(state, HOLD_COUNT_AT);
     if phase == wide::RUNNING {
-        let activations = words::wide::byte_at(state, ACTIVATION_COUNT_AT);
-        let records = words::wide::half_at(state, RECORD_COUNT_AT);
-        let of = Numbered {
-            state,
-            records,
-            activations,
-        };
-        return running_fits(at, &of, h);
+        let n = words::wide::byte_at(state, ACTIVATION_COUNT_AT);
+        let r = words::wide::half_at(state, RECORD_COUNT_AT);
+        return running_fits(at, state, r, n, h);
     }
     if phase == wide::RELEASING {
         return if values::is_condition(condition) {

@@ -14,10 +14,9 @@ pub stands_if-f-requires : goal.stands_if-f-requires
 stands_if-f-requires c = (
   c.requires.0,
   c.requires.1 (omega arith),
-  c.requires.2,
   omega arith,
+  c.requires.2,
   c.requires.3,
-  c.requires.4,
 )
 
 pub loop-k-preserved : goal.loop-k-preserved

@@ -5,7 +5,7 @@ use Rattle.state_check.proofs.inspection.found_fits.Goals as goal
 
 pub all_stand-requires : goal.all_stand-requires
 all_stand-requires c =
-    let w = rule.fit-goes _ _ _ c.requires.4 c.in-Goes.is in (c.requires.0, c.requires.1, c.requires.2, c.requires.3, w.1)
+    let w = rule.fit-goes _ _ _ c.requires.3 c.in-Goes.is in (c.requires.0, c.requires.1, c.requires.2, w.1)
 
 pub enum_told-1 : goal.enum_told-1
 enum_told-1 c = search rules

@@ -19,6 +19,20 @@ sized_fits-plain-requires c =
 pub count_wanted-counts-requires : goal.count_wanted-counts-requires
 count_wanted-counts-requires c = telling.long c.args.code.now c.args.state.now _ c.sized_fits-plain.ensures
 
+pub invariant_of-numbered-clause-small : goal.invariant_of-numbered-clause-small
+invariant_of-numbered-clause-small c =
+    let counts = c.count_wanted-counts in
+    let plain = c.sized_fits-plain in
+    (telling.wanted c.args.code.now c.args.state.now plain.result counts.result.activations counts.result.records
+    plain.ensures counts.ensures.0 counts.ensures.1).small
+
+pub invariant_of-numbered-clause-few : goal.invariant_of-numbered-clause-few
+invariant_of-numbered-clause-few c =
+    let counts = c.count_wanted-counts in
+    let plain = c.sized_fits-plain in
+    (telling.wanted c.args.code.now c.args.state.now plain.result counts.result.activations counts.result.records
+    plain.ensures counts.ensures.0 counts.ensures.1).few
+
 pub walk_tests-requires : goal.walk_tests-requires
 walk_tests-requires c =
     let scan = c.scan in
@@ -35,7 +49,6 @@ walk_tests-requires c =
       ),
       refl,
       telling.counted _ _ _ _ _ plain.ensures counts.ensures.0 w,
-      w.small,
     )
 
 pub overflow_cast-result : goal.overflow_cast-result

@@ -5,7 +5,7 @@ use Rattle.state_check.proofs.inspection.look.Goals as goal
 
 pub returns-then-address-next : goal.returns-then-address-next
 returns-then-address-next c =
-    λ q. law.skipped _ _ _ _ _ _ _ c.requires.8 c.if-address-next.true
+    λ q. law.skipped _ _ _ _ _ _ _ c.requires.7 c.if-address-next.true
 
 pub next_wanted-j-requires : goal.next_wanted-j-requires
 next_wanted-j-requires c =
@@ -13,4 +13,4 @@ next_wanted-j-requires c =
 
 pub returns : goal.returns
 returns c =
-    λ q. law.looked _ _ _ _ _ _ _ c.requires.8 _ _ _ _ c.requires.7 c.requires.6 q c.found_fits-f.ensures c.next_wanted-j.ensures _ refl
+    λ q. law.looked _ _ _ _ _ _ _ c.requires.7 _ _ _ _ c.requires.6 c.requires.5 q c.found_fits-f.ensures c.next_wanted-j.ensures _ refl

@@ -32,7 +32,6 @@ row_fits-requires c =
     (sym c.args_fit.ensures ∙ c.if-not-args_fit.false) in (
       (head_of _ c.requires.0.0.bodied.well).bytes,
       c.requires.1.long,
-      c.requires.2,
       omega arith,
       omega arith,
       omega arith,

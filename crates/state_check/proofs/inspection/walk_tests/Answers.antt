@@ -48,7 +48,6 @@ pub look-w-requires : goal.look-w-requires
 look-w-requires c = (
   c.requires.0,
   c.requires.2,
-  c.requires.3,
   c.found_at-g.auto.stack ∙ c.loop-address.invariant.1,
   c.found_at-g.ensures.1,
   omega (arith, c.half_at-stop.ensures.1),

@@ -16,20 +16,25 @@ pub returns-then-cells-gt-MAX_CELLS : goal.returns-then-cells-gt-MAX_CELLS
 returns-then-cells-gt-MAX_CELLS c = law.frame-2 _ _ _ _ _ (omega arith) _ (c.body_at-q.ensures.is ∙ ap (body_place c.args.at.now.code.now) c.byte_at-b.ensures.0) (omega arith)
 
 pub returns-then-depth-gt-MAX_OPERANDS : goal.returns-then-depth-gt-MAX_OPERANDS
-returns-then-depth-gt-MAX_OPERANDS c = law.frame-3 _ _ _ _ _ (omega arith) _ (c.body_at-q.ensures.is ∙ ap (body_place c.args.at.now.code.now) c.byte_at-b.ensures.0) (omega arith) (omega arith)
+returns-then-depth-gt-MAX_OPERANDS c =
+    law.frame-3 _ _ _ _ _ (omega arith) _
+    (c.body_at-q.ensures.is ∙ ap (body_place c.args.at.now.code.now) c.byte_at-b.ensures.0) (omega arith) (omega arith)
 
 pub returns-then-open-gt-MAX_HOLDS : goal.returns-then-open-gt-MAX_HOLDS
-returns-then-open-gt-MAX_HOLDS c = law.frame-4 _ _ _ _ _ (omega arith) _ (c.body_at-q.ensures.is ∙ ap (body_place c.args.at.now.code.now) c.byte_at-b.ensures.0) (omega arith) (omega arith) (omega arith)
+returns-then-open-gt-MAX_HOLDS c =
+    law.frame-4 _ _ _ _ _ (omega arith) _
+    (c.body_at-q.ensures.is ∙ ap (body_place c.args.at.now.code.now) c.byte_at-b.ensures.0) (omega arith) (omega arith) (omega arith)
 
 pub returns-then-count-i : goal.returns-then-count-i
-returns-then-count-i c = law.frame-5 _ _ _ _ _ (omega arith) _ (c.body_at-q.ensures.is ∙ ap (body_place c.args.at.now.code.now) c.byte_at-b.ensures.0) (omega arith) (omega arith) (omega arith) (omega arith)
+returns-then-count-i c =
+    law.frame-5 _ _ _ _ _ (omega arith) _
+    (c.body_at-q.ensures.is ∙ ap (body_place c.args.at.now.code.now) c.byte_at-b.ensures.0) (omega arith) (omega arith) (omega arith) (omega arith)
 
 pub calls_next-requires : goal.calls_next-requires
 calls_next-requires c = (
   c.requires.0,
   c.requires.1,
-  c.requires.3,
-  c.requires.4,
+  c.requires.2,
   omega arith,
 )
 
@@ -42,7 +47,6 @@ pub row_fits-requires : goal.row_fits-requires
 row_fits-requires c = (
   (head_of _ c.requires.0.0.bodied.well).bytes,
   c.requires.1,
-  c.requires.2,
   omega (arith, c.body_at-q.ensures.inside),
   omega arith,
   omega arith,

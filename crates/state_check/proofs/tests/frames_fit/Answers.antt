@@ -13,8 +13,6 @@ pub frame_fits-f-requires : goal.frame_fits-f-requires
 frame_fits-f-requires c = (
   c.requires.0,
   c.requires.1,
-  c.requires.2,
-  c.requires.3,
   omega arith,
 )
 

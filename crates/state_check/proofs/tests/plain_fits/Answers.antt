@@ -5,7 +5,7 @@ use Rattle.state_check.proofs.tests.plain_fits.Goals as goal
 
 pub returns-then-phase-eq-RUNNING : goal.returns-then-phase-eq-RUNNING
 returns-then-phase-eq-RUNNING c =
-    c.running_fits.ensures ∙ rw (c.half_at-h.ensures.0, c.half_at-records.ensures.0, c.byte_at-activations.ensures.0)
+    c.running_fits.ensures ∙ rw (c.half_at-h.ensures.0, c.half_at-r.ensures.0, c.byte_at-n.ensures.0)
     (law.plain-running _ _ (sym c.byte_at-phase.ensures.0 ∙ c.if-phase-eq-RUNNING.true))
 
 pub returns-then-is_condition : goal.returns-then-is_condition

@@ -21,7 +21,6 @@ row_fits-requires c =
     c.class_at-q.ensures.is c.byte_at-f.ensures.0 in (
       h,
       c.requires.1,
-      c.requires.2,
       omega (arith, c.class_at-q.ensures.inside),
       omega arith,
       omega arith,

@@ -11,7 +11,7 @@ loop-k-init c = sym (each_none _)
 
 pub record_fits-f-requires : goal.record_fits-f-requires
 record_fits-f-requires c =
-    (c.requires.0, c.requires.1, c.requires.2, omega arith)
+    (c.requires.0, c.requires.1, omega (arith, c.args.of.now.small))
 
 pub loop-k-preserved : goal.loop-k-preserved
 loop-k-preserved c =

@@ -10,7 +10,7 @@ loop-j-init c = sym (each_none _)
 
 pub value_fits-f-requires : goal.value_fits-f-requires
 value_fits-f-requires c =
-    (c.requires.0, c.requires.1, c.requires.2)
+    (c.requires.0, c.requires.1)
 
 pub loop-j-preserved : goal.loop-j-preserved
 loop-j-preserved c =

@@ -4,16 +4,16 @@ use mathlib.Core.Path.{sym, ◌∙◌}
 use Rattle.state_check.proofs.TestExits as law
 use Rattle.state_check.proofs.tests.running_fits.Goals as goal
 
-pub returns-then-of-lt1 : goal.returns-then-of-lt1
-returns-then-of-lt1 c =
+pub returns-then-activations-lt1 : goal.returns-then-activations-lt1
+returns-then-activations-lt1 c =
     law.running-1 _ _ _ _ _ (omega arith)
 
-pub returns-then-of-gt-MAX_ACTIVATIONS : goal.returns-then-of-gt-MAX_ACTIVATIONS
-returns-then-of-gt-MAX_ACTIVATIONS c =
+pub returns-then-activations-gt-MAX_ACTIVATIONS : goal.returns-then-activations-gt-MAX_ACTIVATIONS
+returns-then-activations-gt-MAX_ACTIVATIONS c =
     law.running-2 _ _ _ _ _ (omega arith) (omega arith)
 
-pub returns-then-of-gt-MAX_RECORDS : goal.returns-then-of-gt-MAX_RECORDS
-returns-then-of-gt-MAX_RECORDS c =
+pub returns-then-records-gt-MAX_RECORDS : goal.returns-then-records-gt-MAX_RECORDS
+returns-then-records-gt-MAX_RECORDS c =
     law.running-3 _ _ _ _ _ (omega arith) (omega arith) (omega arith)
 
 pub returns-then-byte_at-ne0 : goal.returns-then-byte_at-ne0
