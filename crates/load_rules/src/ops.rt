@@ -170,42 +170,24 @@ fn operate(a: usize, stack: &mut [u8], holds: usize, depth: usize) -> Moved
 {
     let t = top_of(stack, depth);
     let integer = TYPE_INTEGER;
-    if a < 1 {
-        return Moved::Bad;
-    }
-    if a < 6 {
-        return trade_two(stack, integer, integer, integer, holds, depth);
-    }
-    if a < 10 {
-        return trade_two(stack, integer, integer, TYPE_LOGICAL, holds, depth);
-    }
-    if a < 12 {
-        return trade_two(stack, t, t, TYPE_LOGICAL, holds, depth);
-    }
-    if a < 14 {
-        return if is_twofold(t) {
+    match a {
+        1..=5 => trade_two(stack, integer, integer, integer, holds, depth),
+        6..=9 => trade_two(stack, integer, integer, TYPE_LOGICAL, holds, depth),
+        10..=11 => trade_two(stack, t, t, TYPE_LOGICAL, holds, depth),
+        12..=13 => if is_twofold(t) {
             trade_two(stack, t, t, t, holds, depth)
         } else {
             Moved::Bad
-        };
-    }
-    if a < 16 {
-        return trade_two(stack, TYPE_BITS, integer, TYPE_BITS, holds, depth);
-    }
-    if a < 20 {
-        return Moved::Bad;
-    }
-    if a < 22 {
-        return trade_one(stack, integer, integer, holds, depth);
-    }
-    if a < 23 {
-        return if is_twofold(t) {
+        },
+        14..=15 => trade_two(stack, TYPE_BITS, integer, TYPE_BITS, holds, depth),
+        20..=21 => trade_one(stack, integer, integer, holds, depth),
+        22 => if is_twofold(t) {
             trade_one(stack, t, t, holds, depth)
         } else {
             Moved::Bad
-        };
+        },
+        _ => Moved::Bad,
     }
-    Moved::Bad
 }
 
 fn op_operator(a: usize, b: usize, stack: &mut [u8], holds: usize, depth: usize) -> Moved

@@ -52,8 +52,7 @@ pub fn push_after(stack: &mut [u8], t: u8, flow: Moved) -> Moved
 {
     match flow {
         Moved::Goes(h, d) => push_type(stack, t, h, d),
-        Moved::Ends => Moved::Bad,
-        Moved::Bad => Moved::Bad,
+        Moved::Ends | Moved::Bad => Moved::Bad,
     }
 }
 
@@ -63,8 +62,7 @@ pub fn pop_after(stack: &[u8], t: u8, flow: Moved) -> Moved
 {
     match flow {
         Moved::Goes(h, d) => pop_type(stack, t, h, d),
-        Moved::Ends => Moved::Bad,
-        Moved::Bad => Moved::Bad,
+        Moved::Ends | Moved::Bad => Moved::Bad,
     }
 }
 
