@@ -24,6 +24,10 @@ abbrev pub Leaves : List ℕ → List ℕ → Result ⊤ Refusal → Type 0
 Leaves l sizes (Ok u) = Known l sizes
 Leaves l sizes (Err r) = Unit {0}
 
+pub leaves-known : {l sizes : List ℕ} (r : Result ⊤ Refusal) → Known l sizes → Leaves l sizes r
+leaves-known (Ok u) k = k
+leaves-known (Err r) k = tt
+
 -- ── reading ──
 pub reads : (l : List ℕ) → Ok tt ≡ reading_of (read_table l) → Reads l
 reads l e = go (read_table l) refl e

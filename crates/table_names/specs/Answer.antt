@@ -13,6 +13,15 @@ abbrev pub first_fault : List Refusal → Result (Unit {0}) Refusal
 first_fault [] = Ok tt
 first_fault (r ∷ rs) = Err r
 
+-- what is told of a verdict, whatever type it finds
+abbrev pub answered_by : Verdict → Result (Unit {0}) Refusal
+answered_by (Ok t) = Ok tt
+answered_by (Err f) = told (Err f)
+
+pub says-answer : (r : Verdict) (fs : List Refusal) → Says r fs → answered_by r ≡ first_fault fs
+says-answer (Ok t) fs h = rw h
+says-answer (Err f) fs (rest, h) = rw h
+
 pub says_none : (r : Verdict) (t : ℕ) (fs : List Refusal) → r ≡ Ok t → Says r fs → told (Ok tt) ≡ first_fault fs
 says_none r t fs e h = rw (rw e at h)
 

@@ -55,6 +55,10 @@ unfoldable pub head_flaws : List ℕ → List Item → ℕ → ℕ → List Refu
 head_flaws l v p zero = []
 head_flaws l v p (suc n) = decl_flaws l v p ++ head_flaws l v (p + 1) n
 
+pub head_more : (l : List ℕ) (v : List Item) (p n : ℕ) → 0 < n → head_flaws l v p n ≡ decl_flaws l v p ++ head_flaws l v (p + 1) (n - 1)
+unfolding head_flaws
+head_more l v p n h = let e : n ≡ suc (n - 1) = omega arith in ap (head_flaws l v p) e
+
 pub head-start : (l : List ℕ) (v : List Item) (p n : ℕ) → head_flaws l v p n ≡ head_flaws l v p (p + n - p)
 head-start l v p n = let e : n ≡ p + n - p = omega arith in ap (head_flaws l v p) e
 

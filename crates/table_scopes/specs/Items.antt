@@ -134,6 +134,10 @@ grown-two i j {top} {old} {m} {new} g h =
     }
 
 -- ── one step of each loop ──
+pub items_more : (sort : ℕ) (l : List ℕ) (p n : ℕ) → 0 < n → items_at sort l p n ≡ one_at 10 sort l p ++ items_at sort l (p + 1) (n - 1)
+unfolding items_at
+items_more sort l p n h = let e : n ≡ suc (n - 1) = omega arith in ap (items_at sort l p) e
+
 pub items-start : (sort : ℕ) (l : List ℕ) (p n : ℕ) → items_at sort l p n ≡ items_at sort l p (p + n - p)
 items-start sort l p n = let e : n ≡ p + n - p = omega arith in ap (items_at sort l p) e
 
