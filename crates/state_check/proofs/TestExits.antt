@@ -204,13 +204,6 @@ module _ (c l : List ℕ) (n r h : ℕ) where
               unfolding running_fits
               running-8 i = simp (le-leb 1 n a, le-leb n 32 b, le-leb r 256 d, eq-eqb (byte_at l 32) 0 e, eq-eqb (held l n) h f, g, i)
 
-module _ (x : ℕ) where
-  pub end_none : x ≡ 0 → true ≡ (eqb x 0 || is_condition x)
-  end_none a = simp (eq-eqb x 0 a)
-
-  pub end-some : (x ≡ 0 → ⊥) → is_condition x ≡ (eqb x 0 || is_condition x)
-  end-some a = simp (ne_eqb x 0 a)
-
 module _ (c l : List ℕ) where
   pub plain-running : byte_at l 0 ≡ 0 → running_fits c l (byte_at l 2) (half_at l 4) (half_at l 6) ≡ plain_fits c l
   unfolding plain_fits

@@ -267,10 +267,7 @@ fn running_fits(
 fn is_end(x: u8) -> bool
     ensures { result ≡ (eqb x 0 || is_condition x) }
 {
-    if x == 0 {
-        return true;
-    }
-    values::is_condition(x)
+    x == 0 || values::is_condition(x)
 }
 
 // All of a state but where its activations stand.
@@ -287,11 +284,7 @@ pub fn plain_fits(at: &Located, state: &[u8]) -> bool
         return running_fits(at, state, r, n, h);
     }
     if phase == wide::RELEASING {
-        return if values::is_condition(condition) {
-            groups_fit(state, h)
-        } else {
-            false
-        };
+        return values::is_condition(condition) && groups_fit(state, h);
     }
     if phase == wide::ENDED {
         return is_end(condition);

@@ -16,7 +16,7 @@ returns-then-is_condition c =
 
 pub returns-else-is_condition : goal.returns-else-is_condition
 returns-else-is_condition c =
-    law.plain_other _ _ (λ z. c.if-phase-eq-RUNNING.false (c.byte_at-phase.ensures.0 ∙ z))
+    c.if-is_condition.false ∙ law.plain_other _ _ (λ z. c.if-phase-eq-RUNNING.false (c.byte_at-phase.ensures.0 ∙ z))
     (sym c.byte_at-phase.ensures.0 ∙ c.if-phase-eq-RELEASING.true) (sym c.is_condition.ensures ∙ c.if-is_condition.false)
 
 pub returns-then-phase-eq-ENDED : goal.returns-then-phase-eq-ENDED
