@@ -20,8 +20,9 @@ pub struct Source<'a> {
     pub aims: &'a [u16],
 }
 
-// What they write: the names in sight, where the code of each entry ends, the macro's bytes. (The types of the values that wait are lent
-// beside it: most calls need them together with the bytes.)
+// What they write: the names in sight, where the code of each entry ends, the macro's bytes.
+// Kept (point 5): the types of the values that wait (`stack`) are lent beside it; most calls read them while they write the bytes, and of one `&mut` struct no
+// field may be read while another is lent (tried: the borrow checker does not cover it).
 #[derive(Drop)]
 pub struct Lent<'a> {
     pub env: &'a mut [u32],

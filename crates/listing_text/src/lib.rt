@@ -1,4 +1,5 @@
 // The listing of a table, as text in lent bytes: its events, its totals, and its end or `open 0`; or a refusal.
+// Kept (points 4 and 6): text goes into lent bytes, and no String or Display makes it: no heap (a rule of the project), and the contract is an equation on the bytes.
 #![tactic(auto)]
 
 mod lines;

@@ -519,6 +519,7 @@ fn op_stop(a: usize, b: usize, stack: &[u8]) -> Moved
 }
 
 // Each answer is built anew, so that the walk has the depth in a register: handed on as it comes, it goes through memory at every address.
+// Kept (point 7): one `match` on the op and no table of functions: the format's ops are a closed list, and each arm hands over just what its op looks at.
 pub fn effect_of(
     at: &Located,
     body: usize,

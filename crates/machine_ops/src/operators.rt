@@ -45,6 +45,7 @@ fn same(t: u8, x: u32, y: u32) -> bool
     x == y
 }
 
+// Kept (point 7): one `match` on the operator's number, here and below, and no table of functions: a closed list, of which some need the type and some do not.
 pub fn unary(op: u8, t: u8, x: u32) -> Result<Typed, Condition>
     ensures { Works1 op t x result }
 {

@@ -253,6 +253,7 @@ pub fn run_aside(
     let mut left = allowance - taken;
     let mut x = w;
     let mut u = t;
+    // Kept (point 3): a turn takes one step or two, so that no `for` counts them.
     while 0 < left {
         let p = base + CODE_BYTES * (i as usize);
         let op = code[p + CODE_OP_AT];

@@ -47,6 +47,7 @@ fn make(
     machine_ops::op_make(code, q, state, frame, depth, address, a)
 }
 
+// Kept (point 7): one `match` on the op and no table of functions: a closed list, and each arm hands over just what its op takes.
 pub fn dispatch(
     code: &[u8],
     bodies: &[u32],

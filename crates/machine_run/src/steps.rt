@@ -68,6 +68,7 @@ fn run_running(
     let mut address = t.address;
     let mut left = allowance;
     let mut read: u16 = 0;
+    // Kept (point 3): a turn may take many steps (with an operand aside), so that no `for` counts them.
     while 0 < left {
         let depth = machine_frames::wide(state[frame + OPERAND_COUNT_AT]);
         let p = base + CODE_BYTES * (address as usize);

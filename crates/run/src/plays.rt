@@ -28,6 +28,7 @@ pub struct Gone {
     pub readings: u16,
 }
 
+// Kept (point 7): `once` is a flag and no closure for what is done with an event: that is one `if`, and the answer differs by it.
 // From a state's own bytes.
 fn play_sound(
     code: &[u8],

@@ -191,6 +191,7 @@ fn next_wanted(of: &Numbered, address: usize) -> usize
 }
 
 // Whether those fit that stand before an address, and the next address at which one stands.
+// Kept (point 1): both hold at every address, so neither is an Option of the other.
 #[derive(Drop)]
 struct Wanted {
     ok: bool,
