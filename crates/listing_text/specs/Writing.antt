@@ -1,5 +1,5 @@
 -- What a function has done that writes text into lent bytes from an index on and answers the index after it.
-use Rattle.std.specs.Prelude.{◌≡◌, refl, List, [], ◌∷◌, ◌++◌, ℕ, ◌+◌, ◌/◌, ◌%◌, ◌≤◌, ◌<◌, length, get_or, drop, set}
+use Rattle.std.specs.Prelude.{◌≡◌, refl, List, [], ◌∷◌, ◌++◌, ℕ, zero, suc, ◌+◌, ◌/◌, ◌%◌, ◌≤◌, ◌<◌, length, get_or, drop, set}
 use Rattle.std.proofs.Common.{ap, sym, ◌∙◌, arith, add-suc, add-one, length-append, drop-cons}
 use Rattle.std.proofs.lemmas.List.Edits.{sets}
 use Rattle.std.proofs.Math.Seq.{length-sets, drop-length}
@@ -97,6 +97,18 @@ unfolding numbers
 puts-line-2 text word at i n k l m after a b c next p q r s =
     join text at word (numbers (i ∷ (n ∷ []))) k after a next p
     (join k a (32 ∷ decimal i) (numbers (n ∷ [])) l after b next q (join l b (32 ∷ decimal n) (10 ∷ []) m after c next r s))
+
+-- the numbers of a line, one by one: what is left of them from the i-th on
+pub next-number : (ns : List ℕ) (i : ℕ) → i < length ns → numbers (drop i ns) ≡ (32 ∷ decimal (get_or ns i 0)) ++ numbers (drop (i + 1) ns)
+unfolding numbers
+next-number ns i h = rw (drop-cons ns i 0 h, add-one i)
+
+pub no-number : (ns : List ℕ) (i : ℕ) → length ns ≤ i → numbers (drop i ns) ≡ (10 ∷ []) ++ []
+unfolding numbers
+no-number [] zero h = refl
+no-number [] (suc i) h = refl
+no-number (n ∷ ns) zero h = absurd (omega arith)
+no-number (n ∷ ns) (suc i) h = no-number ns i (omega arith)
 
 pub room-1 : (word : List ℕ) (n : ℕ) → length (line word (n ∷ [])) ≡ length word + (length (decimal n) + 2)
 room-1 word n = length-append word (numbers (n ∷ [])) ∙ ap (λ k. length word + k) (one_number n)

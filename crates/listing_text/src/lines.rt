@@ -46,28 +46,26 @@ fn put_newline(text: &mut [u8], at: usize) -> usize
     at + 1
 }
 
-pub fn put_line_1(text: &mut [u8], at: usize, word: &[u8], n: u32) -> usize
-    requires { at + length (line word.now (n ∷ [])) ≤ length text.old }
-    ensures { Puts text.old at (line word.now (n ∷ [])) text.new result }
+// A line: a word, and numbers after it.
+pub fn put_line(text: &mut [u8], at: usize, word: &[u8], numbers: &[u32]) -> usize
+    requires { at + length (line word.now numbers.now) ≤ length text.old }
+    ensures { Puts text.old at (line word.now numbers.now) text.new result }
 {
-    let a = put_word(text, at, word);
-    let b = put_number(text, a, n);
-    put_newline(text, b)
-}
-
-pub fn put_line_2(text: &mut [u8], at: usize, word: &[u8], m: u32, n: u32) -> usize
-    requires { at + length (line word.now (m ∷ (n ∷ []))) ≤ length text.old }
-    ensures { Puts text.old at (line word.now (m ∷ (n ∷ []))) text.new result }
-{
-    let a = put_word(text, at, word);
-    let b = put_number(text, a, m);
-    let c = put_number(text, b, n);
-    put_newline(text, c)
+    let mut next = put_word(text, at, word);
+    for n in numbers {
+        next = put_number(text, next, *n);
+    }
+    put_newline(text, next)
 }
 
 pub fn put_refused(text: &mut [u8], at: usize, refusal: Refusal) -> usize
     requires { at + length (refused_line (refusal_of refusal)) ≤ length text.old }
     ensures { Puts text.old at (refused_line (refusal_of refusal)) text.new result }
 {
-    put_line_2(text, at, b"refused", refusal.number as u32, refusal.place)
+    put_line(
+        text,
+        at,
+        b"refused",
+        &[refusal.number as u32, refusal.place],
+    )
 }

@@ -6,7 +6,7 @@ ghost use Rattle.listing_text.specs.Told.{line_at, event_lines, events_of, last_
 ghost use Rattle.listing_text.specs.Counting.{totals_of};
 ghost use Rattle.listing_text.specs.Writing.{Puts};
 
-use crate::lines::{put_line_1, put_line_2, put_refused};
+use crate::lines::{put_line, put_refused};
 use crate::totals::{Totals, events_of};
 use packing::ANSWER_BYTES;
 use run::Played;
@@ -24,9 +24,9 @@ fn put_event(text: &mut [u8], at: usize, answers: &[u8], from: usize) -> usize
 {
     let first = words::half_at(answers, from + FIRST_AT) as u32;
     match answers[from] {
-        4 => put_line_2(text, at, b"set", first, answers[from + SECOND_AT] as u32),
-        5 => put_line_1(text, at, b"hold", first),
-        _ => put_line_1(text, at, b"release", first),
+        4 => put_line(text, at, b"set", &[first, answers[from + SECOND_AT] as u32]),
+        5 => put_line(text, at, b"hold", &[first]),
+        _ => put_line(text, at, b"release", &[first]),
     }
 }
 
@@ -46,10 +46,10 @@ fn put_sheet(text: &mut [u8], at: usize, t: Totals) -> usize
     requires { at + length (sheet_text (totals_of t)) ≤ length text.old }
     ensures { Puts text.old at (sheet_text (totals_of t)) text.new result }
 {
-    let a = put_line_1(text, at, b"sets", t.sets);
-    let b = put_line_1(text, a, b"holds", t.holds);
-    let c = put_line_1(text, b, b"releases", t.releases);
-    put_line_1(text, c, b"readings", t.readings)
+    let a = put_line(text, at, b"sets", &[t.sets]);
+    let b = put_line(text, a, b"holds", &[t.holds]);
+    let c = put_line(text, b, b"releases", &[t.releases]);
+    put_line(text, c, b"readings", &[t.readings])
 }
 
 // The totals, and the line of an end.
@@ -58,7 +58,7 @@ fn put_end(text: &mut [u8], at: usize, t: Totals, word: &[u8], n: u32) -> usize
     ensures { Puts text.old at (sheet_text (totals_of t) ++ line word.now (n ∷ [])) text.new result }
 {
     let next = put_sheet(text, at, t);
-    put_line_1(text, next, word, n)
+    put_line(text, next, word, &[n])
 }
 
 // What follows a play's events, with the totals after it; nothing where it stopped for want of room.

@@ -3,4 +3,4 @@ use Rattle.listing_text.specs.Writing.{join}
 use Rattle.listing_text.proofs.plays.put_end.Goals as goal
 
 pub returns : goal.returns
-returns c = join _ _ _ _ _ _ _ _ c.put_sheet-next.ensures c.put_line_1.ensures
+returns c = join _ _ _ _ _ _ _ _ c.put_sheet-next.ensures c.put_line.ensures

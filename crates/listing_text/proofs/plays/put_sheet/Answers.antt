@@ -12,32 +12,32 @@ after_holds t = releases_line t.releases ++ readings_line t.readings
 abbrev after-sets : Totals → List ℕ
 after-sets t = holds_line t.holds ++ after_holds t
 
-pub put_line_1-a-requires : goal.put_line_1-a-requires
+pub put_line-a-requires : goal.put_line-a-requires
 unfolding sheet_text
-put_line_1-a-requires c = front_fits _ _ (sets_line c.args.t.sets) (after-sets c.args.t) c.requires
+put_line-a-requires c = front_fits _ _ (sets_line c.args.t.sets) (after-sets c.args.t) c.requires
 
-pub put_line_1-b-requires : goal.put_line_1-b-requires
+pub put_line-b-requires : goal.put_line-b-requires
 unfolding sheet_text
-put_line_1-b-requires c =
+put_line-b-requires c =
     let t = c.args.t in
-    front_fits _ _ (holds_line t.holds) (after_holds t) (back_fits (after-sets t) c.put_line_1-a.ensures c.requires)
+    front_fits _ _ (holds_line t.holds) (after_holds t) (back_fits (after-sets t) c.put_line-a.ensures c.requires)
 
-pub put_line_1-c-requires : goal.put_line_1-c-requires
+pub put_line-c-requires : goal.put_line-c-requires
 unfolding sheet_text
-put_line_1-c-requires c =
+put_line-c-requires c =
     let t = c.args.t in
     front_fits _ _ (releases_line t.releases) (readings_line t.readings)
-    (back_fits (after_holds t) c.put_line_1-b.ensures (back_fits (after-sets t) c.put_line_1-a.ensures c.requires))
+    (back_fits (after_holds t) c.put_line-b.ensures (back_fits (after-sets t) c.put_line-a.ensures c.requires))
 
-pub put_line_1-requires : goal.put_line_1-requires
+pub put_line-requires : goal.put_line-requires
 unfolding sheet_text
-put_line_1-requires c =
+put_line-requires c =
     let t = c.args.t in
-    back_fits (readings_line t.readings) c.put_line_1-c.ensures
-    (back_fits (after_holds t) c.put_line_1-b.ensures (back_fits (after-sets t) c.put_line_1-a.ensures c.requires))
+    back_fits (readings_line t.readings) c.put_line-c.ensures
+    (back_fits (after_holds t) c.put_line-b.ensures (back_fits (after-sets t) c.put_line-a.ensures c.requires))
 
 pub returns : goal.returns
 unfolding sheet_text
 returns c =
-    join _ _ _ _ _ _ _ _ c.put_line_1-a.ensures
-    (join _ _ _ _ _ _ _ _ c.put_line_1-b.ensures (join _ _ _ _ _ _ _ _ c.put_line_1-c.ensures c.put_line_1.ensures))
+    join _ _ _ _ _ _ _ _ c.put_line-a.ensures
+    (join _ _ _ _ _ _ _ _ c.put_line-b.ensures (join _ _ _ _ _ _ _ _ c.put_line-c.ensures c.put_line.ensures))
