@@ -50,7 +50,12 @@ pub extern "C" fn cue_play(
     let answer = p.answer;
     match answer {
         Ok(Played::Spends(steps, events)) => pack(2, steps as u64, 0, events as u64),
-        Ok(Played::Finishes(end, steps, events)) => pack(3, steps as u64, end as u64, events as u64),
+        Ok(Played::Finishes(end, steps, events)) => pack(
+            3,
+            steps as u64,
+            end as u64,
+            events as u64,
+        ),
         Ok(Played::Fills(steps, events)) => pack(8, steps as u64, 0, events as u64),
         Err(refusal) => pack_refusal(refusal),
     }
