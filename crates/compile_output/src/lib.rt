@@ -70,7 +70,10 @@ fn copy(from: &[u8], count: usize, out: &mut [u8], at: usize)
     requires { (count ≤ length from.now) × (at + count ≤ length out.old) }
     ensures { out.new ≡ sets out.old at (take count from.now) }
 {
-    out[at..at + count].copy_from_slice(&from[..count]);
+    // Kept (point 3): by `copy_from_slice` the library would ask memmove of C, a name more for those who link it.
+    for i in 0..count {
+        out[at + i] = from[i];
+    }
 }
 
 fn put_shape(out: &mut [u8], at: usize, address: u16, holds: u8, stack: &[u8], depth: u8)

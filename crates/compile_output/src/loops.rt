@@ -75,6 +75,7 @@ const LEAST: u32 = 2147483648;
 const MINUS_ONE: u32 = 4294967295;
 
 // From the three values on the stack to the first turn: `code_entered` in crates/compile_code/specs/Compile says what each step is for.
+// Both patterns are read where they lie: a copy of them would be on the stack at each level of the walk over statements.
 const ENTERED: [Row; 52] = [
     Row::Op(STORE, 0, Operand::Cell(LIMIT)),
     Row::Op(STORE, 0, Operand::Cell(STEP)),
@@ -221,9 +222,8 @@ pub fn enter_turns(
     ensures { (s : Shape) → Stacked s holds stack.now depth → (result ≡ cursor_after (code_entered cell cursor.address exit s) cursor)
         × (out.new ≡ emitted (code_entered cell cursor.address exit s) cursor out.old) }
 {
-    let pattern = ENTERED;
     put_rows(
-        &pattern,
+        &ENTERED,
         cell,
         cursor.address as u32,
         exit,
@@ -251,8 +251,5 @@ pub fn leave_turn(
     ensures { (s : Shape) → Stacked s holds stack.now depth → (result ≡ cursor_after (code_turned cell began exit s) cursor)
         × (out.new ≡ emitted (code_turned cell began exit s) cursor out.old) }
 {
-    let pattern = TURNED;
-    put_rows(
-        &pattern, cell, began, exit, holds, stack, depth, out, cursor,
-    )
+    put_rows(&TURNED, cell, began, exit, holds, stack, depth, out, cursor)
 }

@@ -158,7 +158,9 @@ fn simple(
     table_types::settle(table, kind as u32, name as u32, at, count, env, top)
 }
 
-// An expression, and the statements that it guards.
+// An expression, and the statements that it guards. (This function, `counted` and `body` stay functions of their own when they are compiled: in `statement`
+// or `expression` their room would be on the stack at each level of every nesting. include/desk.h says how much that may be.)
+#[inline(never)]
 #[cycle(block_body_contents_counted_expression_guarded_item_items_operand_operands_simple_statement)]
 fn guarded(
     table: &[u8],
@@ -193,6 +195,7 @@ fn guarded(
 }
 
 // A for: start, step and limit, and then the statement, among whose names is the control name. What the three are is judged last.
+#[inline(never)]
 #[cycle(block_body_contents_counted_expression_guarded_item_items_operand_operands_simple_statement)]
 fn counted(
     table: &[u8],
@@ -351,6 +354,7 @@ fn block(
 }
 
 // A block expression: the same behind a wall, which no goto passes, and then its expression.
+#[inline(never)]
 #[cycle(block_body_contents_counted_expression_guarded_item_items_operand_operands_simple_statement)]
 fn body(
     table: &[u8],

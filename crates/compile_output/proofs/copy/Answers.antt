@@ -1,14 +1,33 @@
--- `compile_output::copy` meets its contract: what a slice's part holds after the copy is what `sets` leaves.
-use Rattle.std.proofs.Common.{◌≡◌, ◌∙◌, ap, sym, arith, ℕ, List, ◌-◌, ◌+◌, length, take, take_all, length-take-le}
-use Rattle.std.proofs.lemmas.List.Edits.{sets}
-use Rattle.std.proofs.lemmas.Slice.{put_mid-paste}
-use Rattle.compile_output.specs.EmitRecord.{pasted}
+-- `compile_output::copy` meets its contract: after i turns the output is `paste out at from i`.
+use native.Mathlib.Omega.{arith}
+use mathlib.Core.Path.{◌≡◌, ap, ◌∙◌}
+use mathlib.Core.List.{List}
+use Prim.Native.Nat.{ℕ, ◌+◌}
+use lib.ListN.{length, set, get_or}
+use lib.Seq.{paste, paste-zero, length-paste}
+use Rattle.compile_output.specs.EmitRecord.{pasted, paste-turn}
 use Rattle.compile_output.proofs.copy.Goals as goal
+
+pub loop-i-init : goal.loop-i-init
+loop-i-init c = paste-zero c.args.out.now c.args.at c.args.from.now
+
+pub bounds-out-at : goal.bounds-out-at
+bounds-out-at c =
+    let a = c.args in
+    let turn = c.loop-i in
+    let e : length turn.out ≡ length a.out.now =
+    ap (length {A = ℕ}) turn.invariant ∙ length-paste a.out.now a.at a.from.now turn.i (omega arith) (omega arith) in
+    omega (arith, e)
+
+pub loop-i-preserved : goal.loop-i-preserved
+loop-i-preserved c =
+    let a = c.args in
+    let i = c.loop-i.i in
+    let e = ap (λ (x : List ℕ). set x (a.at + i) (get_or a.from.now i 0)) c.loop-i.invariant in
+    e ∙ paste-turn a.out.now a.from.now a.at i (omega arith) (omega arith)
 
 pub returns : goal.returns
 returns c =
     let a = c.args in
-    let t = take a.count a.from.now in
-    let long : length t ≡ a.count = length-take-le a.count a.from.now (omega arith) in
-    put_mid-paste a.at (a.at + a.count - a.at) a.out.now c.copy_from_slice.new.self t a.count c.copy_from_slice.ensures.after (omega arith) (sym long)
-    ∙ (pasted a.out.now t a.at a.count (omega arith) (omega arith) ∙ ap (λ (s : List ℕ). sets a.out.now a.at s) (take_all a.count t (omega arith)))
+    let e : c.loop-i.i ≡ a.count = omega arith in
+    c.loop-i.invariant ∙ (ap (λ (k : ℕ). paste a.out.now a.at a.from.now k) e ∙ pasted a.out.now a.from.now a.at a.count (omega arith) (omega arith))
