@@ -69,14 +69,15 @@ enum cue_tag {
  *
  * Of 3, 4 and 5 the refusal is at the first entry, inner before outer and left to right, that has one of them, and is the least of that entry's.
  * The table is read only. The work is linear in its entries but for looking names up: an entry may walk all names in sight.
- * Stack: under 97,000 bytes (measured: 95,720 with a block in a block, 63 deep, the most of all that was tried). */
+ * Stack: under 99,000 bytes (measured: 98,568 with a for in a for's bounds, 31 of them, which is refused by 6 at the end; 96,216 with tables that are
+ * accepted). */
 uint64_t cue_check(const uint8_t *table, size_t n);
 
 /* The compiler: the table check's refusal, whatever `out` is; or 7 (place 0) where the macro is longer than m bytes; or done, with the macro's length
  * as `second`: then the macro is the first so many bytes of `out`, and those behind it are as they were. A macro that was compiled passes the
  * loading check. Equal tables compile to equal bytes, whatever `out` held. The work is linear in the table's entries but for looking names up, as the
- * check's. Stack: under 142,000 bytes (measured: 140,216 with an operator in an operator, 64 deep, the most of all that was tried;
- * 131,944 with a block in a block). */
+ * check's. Stack: under 142,000 bytes (measured: 140,328 with operators, faders and functions in one another, 64 deep, the most of all that was
+ * tried; 131,944 with a block in a block). */
 uint64_t cue_compile(const uint8_t *table, size_t n, uint8_t *out, size_t m);
 
 /* The loading check: refusal 8 (place: the first record that does not read; an SH whose address is not above that of the SH before it is one) or 9

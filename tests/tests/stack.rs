@@ -51,9 +51,17 @@ fn deepest_tables() -> Vec<Vec<u8>> {
     tables.iter().map(|text| table(text)).collect()
 }
 
+/// Fors in the bounds of fors, in block expressions, as deep as a table goes: more cells than a body has, which is found after the walk of the names.
+fn deepest_refused() -> Vec<u8> {
+    let (around, behind) = (", 31 5 0, 53 0 1".repeat(31), ", 40 0 1, 40 0 1, 40 0 1, 1 0 0".repeat(31));
+    table(&format!("1 0 1{around}, 1 0 0{behind}"))
+}
+
 #[test]
 fn of_the_table_check_and_the_compiler() {
-    let (mut check, mut compile) = (0, 0);
+    let (refused, used) = with_stack(|| desk::check(&deepest_refused()));
+    assert_eq!(desk::unpacked(refused), [0, 0, 6, 0]);
+    let (mut check, mut compile) = (used, 0);
     for deepest in deepest_tables() {
         let (checked, used) = with_stack(|| desk::check(&deepest));
         assert_eq!(checked, 1);
